@@ -1,0 +1,42 @@
+-- `numberOf` tells answers apart.
+use Prim.Native.Nat.{ℕ}
+use mathlib.Core.Path.{_≡_, refl, sym, ap, _∙_}
+use mathlib.Core.List.{List, [], _∷_}
+use lib.ListN.{getD}
+use Rattle.answer.specs.Answer.{numberOf}
+use Rattle.answer.specs.declared.Answer.{Answer}
+use Rattle.answer.specs.declared.Answer.the-variants.{Written, NeedsCredentials, Authenticated, Ended, Refused}
+use Rattle.answer.specs.declared.Refusal.the-variants.{Fragment, BadLength, TooLong, BadCode, BadType, BadOpCode, BadMsLength, BadForm, WrongIdentifier, NotTaken, NoRoom, BadTable, SameChallenge, BadArgument}
+
+-- the answer of each number from 0 to 23; 4 to 9 are no answer's numbers, and anything stands there
+answers : List Answer
+answers =
+    Written ∷ NeedsCredentials ∷ Authenticated ∷ Ended
+    ∷ Written ∷ Written ∷ Written ∷ Written ∷ Written ∷ Written
+    ∷ Refused Fragment ∷ Refused BadLength ∷ Refused TooLong ∷ Refused BadCode ∷ Refused BadType
+    ∷ Refused BadOpCode ∷ Refused BadMsLength ∷ Refused BadForm ∷ Refused WrongIdentifier ∷ Refused NotTaken
+    ∷ Refused NoRoom ∷ Refused BadTable ∷ Refused SameChallenge ∷ Refused BadArgument ∷ []
+
+back : (a : Answer) → getD answers (numberOf a) Written ≡ a
+unfolding answers
+back Written = refl
+back NeedsCredentials = refl
+back Authenticated = refl
+back Ended = refl
+back (Refused Fragment) = refl
+back (Refused BadLength) = refl
+back (Refused TooLong) = refl
+back (Refused BadCode) = refl
+back (Refused BadType) = refl
+back (Refused BadOpCode) = refl
+back (Refused BadMsLength) = refl
+back (Refused BadForm) = refl
+back (Refused WrongIdentifier) = refl
+back (Refused NotTaken) = refl
+back (Refused NoRoom) = refl
+back (Refused BadTable) = refl
+back (Refused SameChallenge) = refl
+back (Refused BadArgument) = refl
+
+pub numbers-apart : (a b : Answer) → numberOf a ≡ numberOf b → a ≡ b
+numbers-apart a b e = sym (back a) ∙ ap (λ (n : ℕ). getD answers n Written) e ∙ back b

@@ -1,0 +1,4 @@
+pub mod Exits
+pub mod Loops
+pub mod Lists
+pub mod Scans

@@ -1,0 +1,86 @@
+-- Laws of lists by their elements, and of octets put into others.
+use Prim.Native.Nat.{ℕ, zero, suc, _+_, _-_, _≤_, _<_}
+use native.Mathlib.Nat.{le-of-suc-le-suc, not-suc-le-zero, eq-or-lt-of-le}
+use native.Mathlib.Numerals.{add-one}
+use native.Mathlib.Omega.{arith}
+use mathlib.Core.Logic.{⊎-elim}
+use mathlib.Core.Path.{_≡_, refl, sym, ap, _∙_}
+use mathlib.Core.List.{List, [], _∷_, _++_, append-assoc, append-nil}
+use lib.ListN.{length, take, drop, getD, length-append, length-drop, drop-of-length-le, List·getD-append}
+use lib.Seq.{length-take-le, take-append-seam, drop-append-add, drop-drop, getD-at, ext-getD}
+use borrow.Author.Tests.{le-leb}
+use Rattle.octets.specs.Choice.{pick}
+use Rattle.octets.specs.Lists.{cells, sized, over, pasted, put}
+use Rattle.octets.proofs.Exits.{pick-true}
+
+pub length-cells : (n : ℕ) (f : ℕ → ℕ) → length (cells n f) ≡ n
+unfolding cells
+length-cells zero f = refl
+length-cells (suc n) f = length-append (cells n f) (f n ∷ []) ∙ ap (λ (k : ℕ). k + 1) (length-cells n f) ∙ add-one n
+
+pub getD-cells : (n : ℕ) (f : ℕ → ℕ) (k : ℕ) → k < n → getD (cells n f) k 0 ≡ f k
+unfolding cells
+getD-cells zero f k h = absurd (not-suc-le-zero h)
+getD-cells (suc n) f k h =
+    ⊎-elim
+    (λ e. rw e (getD-at (cells n f) (f n) [] 0 n (length-cells n f)))
+    (λ l. List·getD-append (cells n f) (f n ∷ []) 0 k (rw (length-cells n f) l) ∙ getD-cells n f k l)
+    (eq-or-lt-of-le (le-of-suc-le-suc h))
+
+pub length-sized : (n : ℕ) (s : List ℕ) → length (sized n s) ≡ n
+unfolding sized
+length-sized n s = length-cells n (λ k. getD s k 0)
+
+pub getD-sized : (n : ℕ) (s : List ℕ) (k : ℕ) → k < n → getD (sized n s) k 0 ≡ getD s k 0
+unfolding sized
+getD-sized n s k h = getD-cells n (λ j. getD s j 0) k h
+
+-- a list of n octets, with whatever follows it
+pub sized-append : (n : ℕ) (s t : List ℕ) → length s ≡ n → sized n (s ++ t) ≡ s
+sized-append n s t e =
+    ext-getD 0 (sized n (s ++ t)) s (length-sized n (s ++ t) ∙ sym e)
+    (λ i h. let k : i < n = rw (length-sized n (s ++ t)) at h in getD-sized n (s ++ t) i k ∙ List·getD-append s t 0 i (omega arith))
+
+pub sized-own : (n : ℕ) (s : List ℕ) → length s ≡ n → sized n s ≡ s
+sized-own n s e = ap (sized n) (sym (append-nil s)) ∙ sized-append n s [] e
+
+pub put-fits : (d s : List ℕ) (i : ℕ) → i + length s ≤ length d → put d i s ≡ take i d ++ s ++ drop (i + length s) d
+unfolding put pasted
+put-fits d s i h = pick-true _ _ _ (le-leb _ _ h)
+
+-- what is put after w is written after w
+pub put-over : (w v old : List ℕ) (n : ℕ) → n ≡ length w → n + length v ≤ length old → put (over w old) n v ≡ over (w ++ v) old
+put-over w v old n e h =
+    let k : length w + length v ≤ length (over w old) = omega (arith, length-append w (drop (length w) old), length-drop (length w) old) in
+    ap (λ (m : ℕ). put (over w old) m v) e ∙ put-fits (over w old) v (length w) k ∙ simp (take-append-seam, drop-append-add, drop-drop, length-append)
+
+pub put-front : (d q : List ℕ) → length q ≤ length d → put d 0 q ≡ over q d
+put-front d q h = put-over [] q d 0 refl (omega arith)
+
+put-as-over : (d a : List ℕ) (i : ℕ) → i + length a ≤ length d → put d i a ≡ over (take i d ++ a) d
+put-as-over d a i h =
+    let k : length (take i d) ≡ i = length-take-le i d (omega arith) in
+    let n : length (take i d ++ a) ≡ i + length a = length-append (take i d) a ∙ ap (λ (m : ℕ). m + length a) k in
+    put-fits d a i h ∙ ap (λ (m : ℕ). (take i d ++ a) ++ drop m d) (sym n)
+
+-- two parts put one after the other are one part
+pub put-put : (d a b : List ℕ) (i j : ℕ) → j ≡ i + length a → j + length b ≤ length d → put (put d i a) j b ≡ put d i (a ++ b)
+put-put d a b i j e h =
+    let k : length (take i d) ≡ i = length-take-le i d (omega arith) in
+    let n : j ≡ length (take i d ++ a) = omega (arith, length-append (take i d) a) in
+    ap (λ (l : List ℕ). put l j b) (put-as-over d a i (omega arith))
+    ∙ put-over (take i d ++ a) b d j n h
+    ∙ ap (λ (w : List ℕ). over w d) (append-assoc (take i d) a b)
+    ∙ sym (put-as-over d (a ++ b) i (omega (arith, length-append a b)))
+
+-- and so are three
+pub put-three : (d a b c l1 l2 l3 : List ℕ) (i j k : ℕ) → l1 ≡ put d i a → l2 ≡ put l1 j b → l3 ≡ put l2 k c → j ≡ i + length a → k ≡ j + length b → k + length c ≤ length d → l3 ≡ put d i (a ++ b ++ c)
+put-three d a b c l1 l2 l3 i j k e1 e2 e3 hj hk h =
+    e3 ∙ ap (λ (l : List ℕ). put l k c) (e2 ∙ ap (λ (l : List ℕ). put l j b) e1 ∙ put-put d a b i j hj (omega arith))
+    ∙ put-put d (a ++ b) c i k (omega (arith, length-append a b)) h
+
+-- a part as long as the list takes its place
+pub put-whole : (d s : List ℕ) → length s ≡ length d → put d 0 s ≡ s
+put-whole d s e =
+    let z : drop (length s) d ≡ [] = drop-of-length-le d {i = length s} (omega arith) in
+    put-front d s (omega arith) ∙ rw z (append-nil s)

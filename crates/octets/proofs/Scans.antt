@@ -1,0 +1,174 @@
+-- The steps of this crate's loops, what its tests tell, and one answer for all: `search octets`.
+use Prim.Native.Nat.{ℕ, zero, suc, _+_, _-_, _*_, _<_, _≤_}
+use mathlib.Core.Path.{_≡_, refl, sym, ap, _∙_}
+use mathlib.Core.List.{List, [], _∷_, _++_}
+use mathlib.Core.Bool.{Bool, true, false}
+use native.Mathlib.Nat.{add-zero, add-suc, le-refl}
+use native.Mathlib.Numerals.{add-one}
+use native.Mathlib.Omega.{arith}
+use lib.ListN.{length, getD, drop, drop-of-length-le, List·getD-eq-default}
+use lib.Seq.{drop-cons}
+use lib.Dec.{eqb}
+use borrow.Author.Tests.{eq-eqb, ne-eqb, eqb-true}
+use Rattle.octets.specs.Choice.{pick}
+use Rattle.octets.specs.declared.Order.{Order}
+use Rattle.octets.specs.Octets.{pairOf, numberAt, same, differs, isHex, allHex, isDigit, digits, digitValue, numberFrom}
+use Rattle.octets.proofs.Exits.{exits, pick-true, pick-false}
+use Rattle.octets.proofs.Loops.{loops}
+
+pub getD-past : (s : List ℕ) (i : ℕ) → length s ≤ i → 0 ≡ getD s i 0
+getD-past s i h = sym (List·getD-eq-default s 0 h)
+
+pub number-past : (o : Order) (p : List ℕ) (i r : ℕ) → length p ≤ i → r ≡ pairOf o 0 0 → r ≡ numberAt o p i
+unfolding numberAt
+number-past o p i r h e =
+    let k : length p ≤ i + 1 = omega arith in
+    e ∙ (λ j. pairOf o (getD-past p i h j) (getD-past p (i + 1) k j))
+
+-- ---- equality
+pub same-refl : (a : List ℕ) → same a a ≡ true
+unfolding same
+same-refl [] = refl
+same-refl (x ∷ xs) = pick-true _ _ _ (eq-eqb x x refl) ∙ same-refl xs
+
+pub same-true : (a b : List ℕ) → same a b ≡ true → a ≡ b
+unfolding same pick
+same-true [] [] e = refl
+same-true [] (y ∷ ys) e = let z : _≡_ {A = ℕ} 0 1 = cc in absurd (omega arith)
+same-true (x ∷ xs) [] e = let z : _≡_ {A = ℕ} 0 1 = cc in absurd (omega arith)
+same-true (x ∷ xs) (y ∷ ys) e = go (eqb x y) refl e (same-true xs ys)
+  where
+    go : (t : Bool) → eqb x y ≡ t → pick t (same xs ys) false ≡ true → (same xs ys ≡ true → xs ≡ ys) → x ∷ xs ≡ y ∷ ys
+    go true h e f = let p : x ≡ y = eqb-true x y h in let q : xs ≡ ys = f e in cc
+    go false h e f = let z : _≡_ {A = ℕ} 0 1 = cc in absurd (omega arith)
+
+no-less : (t : Bool) {r : Bool} → false ≡ r → false ≡ pick t r false
+unfolding pick
+no-less true e = e
+no-less false e = refl
+
+pub same-other : (a b : List ℕ) → (length a ≡ length b → ⊥) → false ≡ same a b
+unfolding same
+same-other [] [] h = absurd (h refl)
+same-other [] (y ∷ ys) h = refl
+same-other (x ∷ xs) [] h = refl
+same-other (x ∷ xs) (y ∷ ys) h = no-less (eqb x y) (same-other xs ys (λ e. h (ap suc e)))
+
+-- n of the first i octets differ
+pub record Compared (a b : List ℕ) (n i : ℕ) : Type 0 where
+  pub long : length a ≡ length b
+  pub most : i ≤ length a
+  pub bound : n ≤ i
+  pub is : same a b ≡ pick (eqb n 0) (same (drop i a) (drop i b)) false
+
+pub compare-none : {a b : List ℕ} → length a ≡ length b → Compared a b 0 0
+unfolding pick
+compare-none e = record { long = e; most = omega arith; bound = omega arith; is = refl }
+
+none : (t : Bool) → pick t false false ≡ false
+unfolding pick
+none true = refl
+none false = refl
+
+compare-step : (t : Bool) (n d : ℕ) (r : Bool) → d ≡ pick t 0 1 → pick (eqb n 0) (pick t r false) false ≡ pick (eqb (n + d) 0) r false
+unfolding pick
+compare-step true n d r e = let h : n + d ≡ n = omega arith in rw h
+compare-step false n d r e = none (eqb n 0) ∙ sym (pick-false _ _ _ (ne-eqb (n + d) 0 (omega arith)))
+
+pub compare-more : {a b : List ℕ} {n i d : ℕ} → Compared a b n i → i < length a → d ≡ differs (getD a i 0) (getD b i 0) → d ≤ 1 → Compared a b (n + d) (i + 1)
+unfolding same differs
+compare-more {a} {b} {n} {i} {d} p h e l =
+    let k : i < length b = omega arith in
+    record {
+      long = p .long;
+      most = omega arith;
+      bound = omega arith;
+      is = p .is ∙ rw (add-one i, drop-cons a i 0 h, drop-cons b i 0 k) (compare-step (eqb (getD a i 0) (getD b i 0)) n d _ e);
+    }
+
+whole : (t : Bool) → pick t true false ≡ t
+unfolding pick
+whole true = refl
+whole false = refl
+
+pub compare-done : {a b : List ℕ} {n i : ℕ} → Compared a b n i → length a ≤ i → eqb n 0 ≡ same a b
+unfolding same
+compare-done {a} {b} {n} {i} p h =
+    let k : length b ≤ i = omega arith in
+    sym (p .is ∙ simp (drop-of-length-le a h, drop-of-length-le b k) (whole (eqb n 0)))
+
+-- ---- hex digits
+pub hex-more : (either : Bool) (s : List ℕ) (i : ℕ) → i < length s → isHex either (getD s i 0) ≡ true → allHex either (drop i s) ≡ allHex either (drop (i + 1) s)
+unfolding allHex
+hex-more either s i h e = rw (add-one, drop-cons s i 0 h) (pick-true _ _ _ e)
+
+pub hex-not : (either : Bool) (s : List ℕ) (i : ℕ) → i < length s → isHex either (getD s i 0) ≡ false → allHex either (drop i s) ≡ false
+unfolding allHex
+hex-not either s i h e = rw (drop-cons s i 0 h) (pick-false _ _ _ e)
+
+pub hex-done : (either : Bool) (s : List ℕ) (i : ℕ) → length s ≤ i → allHex either (drop i s) ≡ true
+unfolding allHex
+hex-done either s i h = simp (drop-of-length-le s h)
+
+-- ---- decimal digits
+pub digits-more : (s : List ℕ) (i : ℕ) → i < length s → isDigit (getD s i 0) ≡ true → i + digits (drop i s) ≡ i + 1 + digits (drop (i + 1) s)
+unfolding digits
+digits-more s i h e = rw (add-one, drop-cons s i 0 h) (simp (e, pick-true) (omega arith))
+
+pub digits-here : (s : List ℕ) (i : ℕ) → i < length s → isDigit (getD s i 0) ≡ false → i + digits (drop i s) ≡ i
+unfolding digits
+digits-here s i h e = rw (drop-cons s i 0 h) (simp (e, pick-false) (omega arith))
+
+pub digits-done : (s : List ℕ) (i : ℕ) → length s ≤ i → i + digits (drop i s) ≡ i
+unfolding digits
+digits-done s i h = simp (drop-of-length-le s h) (omega arith)
+
+-- powers of ten
+pub ten : ℕ → ℕ
+ten zero = 1
+ten (suc n) = 10 * ten n
+
+ten-up : (n k : ℕ) → ten n ≤ ten (n + k)
+unfolding ten
+ten-up n zero = rw add-zero (le-refl (ten n))
+ten-up n (suc k) = rw add-suc (omega (arith, ten-up n k))
+
+ten-small : (n : ℕ) → n ≤ 10 → ten n ≤ 10000000000
+unfolding ten
+ten-small n h =
+    let e : n + (10 - n) ≡ 10 = omega arith in
+    rw e at (ten-up n (10 - n))
+
+ten-more : (n : ℕ) → ten (n + 1) ≡ 10 * ten n
+unfolding ten
+ten-more n = rw add-one
+
+-- acc is the number of the first i of at most ten digits
+pub record Numbered (s : List ℕ) (acc i : ℕ) : Type 0 where
+  pub few : length s ≤ 10
+  pub most : i ≤ length s
+  pub is : numberFrom 0 s ≡ numberFrom acc (drop i s)
+  pub bound : acc + 23 ≤ 23 * ten i
+  pub tens : ten i ≤ 10000000000
+
+pub number-none : {s : List ℕ} → length s ≤ 10 → Numbered s 0 0
+unfolding ten
+number-none h = record { few = h; most = omega arith; is = refl; bound = omega arith; tens = omega arith }
+
+pub number-more : {s : List ℕ} {acc i d : ℕ} → Numbered s acc i → i < length s → d ≡ digitValue (getD s i 0) → d < 208 → Numbered s (acc * 10 + d) (i + 1)
+unfolding numberFrom
+number-more {s} {acc} {i} {d} p h e k =
+    let t = ten-more i in
+    record {
+      few = p .few;
+      most = omega arith;
+      is = p .is ∙ rw (add-one, drop-cons s i 0 h, e);
+      bound = omega arith;
+      tens = ten-small (i + 1) (omega arith);
+    }
+
+pub number-done : {s : List ℕ} {acc i : ℕ} → Numbered s acc i → length s ≤ i → acc ≡ numberFrom 0 s
+unfolding numberFrom
+number-done {s} {acc} {i} p h = sym (p .is ∙ simp (drop-of-length-le s h))
+
+pub ruleset octets = (exits, loops, getD-past, same-other, compare-none, compare-more, compare-done, hex-more, hex-not, hex-done, digits-more, digits-here, digits-done, number-none, number-more, number-done)
