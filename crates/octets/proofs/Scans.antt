@@ -12,7 +12,7 @@ use lib.Dec.{eqb}
 use borrow.Author.Tests.{eq-eqb, ne-eqb, eqb-true}
 use Rattle.octets.specs.Choice.{pick}
 use Rattle.octets.specs.declared.Order.{Order}
-use Rattle.octets.specs.Octets.{pairOf, numberAt, same, differs, isHex, allHex, isDigit, digits, digitValue, numberFrom}
+use Rattle.octets.specs.Octets.{pairOf, numberAt, same, differs, isHex, allHex, hexValue, unhexAt, isDigit, digits, digitValue, numberFrom}
 use Rattle.octets.proofs.Exits.{exits, pick-true, pick-false}
 use Rattle.octets.proofs.Loops.{loops}
 
@@ -109,6 +109,13 @@ hex-not either s i h e = rw (drop-cons s i 0 h) (pick-false _ _ _ e)
 pub hex-done : (either : Bool) (s : List ℕ) (i : ℕ) → length s ≤ i → allHex either (drop i s) ≡ true
 unfolding allHex
 hex-done either s i h = simp (drop-of-length-le s h)
+
+pub unhex-past : (d : List ℕ) (k : ℕ) → length d ≤ k → 0 ≡ unhexAt d k
+unfolding unhexAt hexValue pick
+unhex-past d k h =
+    let e : length d ≤ k * 2 = omega arith in
+    let f : length d ≤ k * 2 + 1 = omega arith in
+    rw (← getD-past d (k * 2) e, ← getD-past d (k * 2 + 1) f)
 
 -- ---- decimal digits
 pub digits-more : (s : List ℕ) (i : ℕ) → i < length s → isDigit (getD s i 0) ≡ true → i + digits (drop i s) ≡ i + 1 + digits (drop (i + 1) s)

@@ -210,14 +210,16 @@ pub fn to_hex(dst: &mut [u8], src: &[u8])
     }
 }
 
-// Octet k of the digits d.
-fn unhex_at(d: &[u8], k: usize) -> u8
-    requires { ⌜ k < 4096 ⌝ }
+// Octet k of the digits d; a digit past the end counts as 0.
+pub fn unhex_at(d: &[u8], k: usize) -> u8
     ensures { λ r. ⌜ r ≡ unhexAt (now (d .entry)) k ⌝ }
 {
-    let high = octet(d, k * 2);
-    let low = octet(d, k * 2 + 1);
-    hex_value(high) * 16 + hex_value(low)
+    if k < d.len() {
+        let high = octet(d, k * 2);
+        let low = octet(d, k * 2 + 1);
+        return hex_value(high) * 16 + hex_value(low);
+    }
+    0
 }
 
 // The sixteen octets of 32 hex digits.

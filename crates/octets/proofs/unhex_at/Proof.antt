@@ -1,5 +1,6 @@
+use Rattle.octets.proofs.Scans.{unhex-past}
 use Rattle.octets.specs.Octets.{unhexAt}
-use Rattle.octets.proofs.Scans.{octets}
+use borrow.Author.Needs.{needs}
 use Rattle.octets.proofs.unhex_at.Statement.{statement}
 use Rattle.octets.proofs.unhex_at.Tie as tie
 
@@ -8,13 +9,14 @@ unfolding unhexAt
 unhex-at-spec =
     tie.close
     (tie.spec
-    (λ c. search octets)
-    (λ c κs. search octets)
-    (λ c. search octets)
-    (λ c. search octets)
-    (λ c κs. search octets)
-    (λ c κs. search octets)
-    (λ c. search octets)
-    (λ c κs. search octets)
-    (λ c. search octets)
-    (λ c. cc))
+    (λ c. search needs)
+    (λ c κs. search needs)
+    (λ c. search needs)
+    (λ c. search needs)
+    (λ c κs. search needs)
+    (λ c κs. search needs)
+    (λ c. search needs)
+    (λ c κs. search needs)
+    (λ c. search needs)
+    (λ c. cc)
+    (λ c. search (needs, unhex-past)))
