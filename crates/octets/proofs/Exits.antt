@@ -1,11 +1,11 @@
 -- One answer for every exit of a decision: `search exits` where it has calls, `search wide` where it has none,
 -- `search (told f, tests)` for a match.
 use Prim.Native.Nat.{ℕ, _<_, _≤_}
-use mathlib.Core.Path.{_≡_, sym, ap, _∙_}
+use mathlib.Core.Path.{_≡_, refl, sym, ap, _∙_}
 use mathlib.Core.Bool.{Bool, true, false, not, _&&_, _||_}
 use lib.Dec.{eqb, ltb}
 use borrow.Author.Needs.{needs}
-use borrow.Author.Tests.{lt-ltb, le-ltb, le-leb, lt-leb, eq-eqb, ne-eqb}
+use borrow.Author.Tests.{ltb-true, ltb-false, lt-ltb, le-ltb, le-leb, lt-leb, eq-eqb, ne-eqb}
 use Rattle.octets.specs.Choice.{pick}
 
 pub pick-true : {A : Type 0} (b : Bool) (x y : A) → b ≡ true → pick b x y ≡ x
@@ -21,6 +21,14 @@ pub arms : {A : Type 0} (P : A → Type 0) (b : Bool) {x y : A} → P x → P y 
 unfolding pick
 arms P true p q = p
 arms P false p q = q
+
+-- the two cases of a test, and of a comparison
+pub tested : {A : Type 0} (b : Bool) → (b ≡ true → A) → (b ≡ false → A) → A
+tested true f g = f refl
+tested false f g = g refl
+
+pub below : {A : Type 0} (a b : ℕ) → (a < b → A) → (b ≤ a → A) → A
+below a b f g = tested (ltb a b) (λ e. f (ltb-true a b e)) (λ e. g (ltb-false a b e))
 
 -- `if f(..)` and `if !f(..)`: r is what the call gave, b what its contract says of it
 pub gave : (b r v : Bool) → r ≡ b → r ≡ v → b ≡ v

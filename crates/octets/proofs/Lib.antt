@@ -2,3 +2,5 @@ pub mod Exits
 pub mod Loops
 pub mod Lists
 pub mod Scans
+pub mod Parts
+pub mod Decimals

@@ -131,7 +131,7 @@ unfolding digits
 digits-done s i h = simp (drop-of-length-le s h) (omega arith)
 
 -- powers of ten
-pub ten : ℕ → ℕ
+unfoldable pub ten : ℕ → ℕ
 ten zero = 1
 ten (suc n) = 10 * ten n
 

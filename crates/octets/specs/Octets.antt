@@ -1,11 +1,12 @@
 -- Octets: equality, numbers of two octets, hex digits, decimal digits.
 use Prim.Native.Nat.{ℕ, zero, suc, _+_, _-_, _*_, _/_, _%_}
-use mathlib.Core.List.{List, [], _∷_}
+use mathlib.Core.Path.{_≡_}
+use mathlib.Core.List.{List, [], _∷_, _++_}
 use mathlib.Core.Bool.{Bool, true, false}
-use lib.ListN.{length, getD}
+use lib.ListN.{length, getD, drop}
 use lib.Dec.{ltb, leb, eqb}
 use Rattle.octets.specs.Choice.{pick}
-use Rattle.octets.specs.Lists.{cells}
+use Rattle.octets.specs.Lists.{part}
 use Rattle.octets.specs.declared.Order.{Order}
 use Rattle.octets.specs.declared.Order.the-variants.{Little, Big}
 
@@ -23,6 +24,10 @@ same [] [] = true
 same [] (y ∷ ys) = false
 same (x ∷ xs) [] = false
 same (x ∷ xs) (y ∷ ys) = pick (eqb x y) (same xs ys) false
+
+-- whether word stands at i
+unfoldable pub standsAt : List ℕ → ℕ → List ℕ → Bool
+standsAt p i word = same (part p i (length word)) word
 
 -- the number that two octets stand for
 abbrev pub pairOf : Order → ℕ → ℕ → ℕ
@@ -48,6 +53,10 @@ isHex either x =
 unfoldable pub allHex : Bool → List ℕ → Bool
 allHex either [] = true
 allHex either (x ∷ xs) = pick (isHex either x) (allHex either xs) false
+
+-- whether n hex digits stand at i
+unfoldable pub hexStands : Bool → List ℕ → ℕ → ℕ → Bool
+hexStands either p i n = pick (ltb (length (part p i n)) n) false (allHex either (part p i n))
 
 -- the value of a hex digit of either case; 0 for any other octet
 unfoldable pub hexValue : ℕ → ℕ
@@ -92,3 +101,17 @@ numberFrom acc (x ∷ xs) = numberFrom (acc * 10 + digitValue x) xs
 -- the number of at most ten digits, and 0 for more
 unfoldable pub number : List ℕ → ℕ
 number s = pick (ltb 10 (length s)) 0 (numberFrom 0 s)
+
+-- the low k decimal digits of n, with no leading zeros
+unfoldable pub decimals : ℕ → ℕ → List ℕ
+decimals zero n = []
+decimals (suc k) n = pick (ltb n 10) ((48 + n) ∷ []) (decimals k (n / 10) ++ ((48 + n % 10) ∷ []))
+
+-- n below 10,000,000,000 in decimal, with no leading zeros
+unfoldable pub decimal : ℕ → List ℕ
+decimal n = decimals 10 n
+
+-- the digits of n stand from start to the end of ten octets
+pub record DigitsFrom (n : ℕ) (digits : List ℕ) (start : ℕ) : Type 0 where
+  pub size : start + length (decimal n) ≡ 10
+  pub is : drop start digits ≡ decimal n

@@ -2,9 +2,9 @@
 ghost use mathlib.Core.Path.{_≡_};
 ghost use mathlib.Core.List.{List};
 ghost use Prim.Native.Nat.{_<_, _≤_};
-ghost use lib.ListN.{length, getD};
+ghost use lib.ListN.{length, getD, take, drop};
 ghost use Rattle.octets.specs.Lists.{cells, sized, put};
-ghost use Rattle.octets.specs.Octets.{octetIs, same, differs, pairOf, numberAt, isHex, allHex, hexValue, hexDigit, hexAt, unhexAt, isDigit, digits, digitValue, number};
+ghost use Rattle.octets.specs.Octets.{octetIs, standsAt, same, differs, pairOf, numberAt, isHex, allHex, hexStands, hexValue, hexDigit, hexAt, unhexAt, isDigit, digits, digitValue, number, decimal, DigitsFrom};
 
 // The order of a number's octets: the low one first, or the high one first.
 pub enum Order {
@@ -28,6 +28,27 @@ pub fn octet_is(p: &[u8], i: usize, x: u8) -> bool
 {
     let y = octet(p, i);
     y == x
+}
+
+// The octets from i on.
+pub fn rest(p: &[u8], i: usize) -> &[u8]
+    ensures { λ r. ⌜ now r ≡ drop i (now (p .entry)) ⌝ }
+{
+    if i < p.len() {
+        return &p[i..];
+    }
+    &p[0..0]
+}
+
+// n octets from i on, or as many as there are.
+pub fn part(p: &[u8], i: usize, n: usize) -> &[u8]
+    ensures { λ r. ⌜ now r ≡ take n (drop i (now (p .entry))) ⌝ }
+{
+    let t = rest(p, i);
+    if n < t.len() {
+        return &t[0..n];
+    }
+    t
 }
 
 // Fills dst with the octets of src, and zeros after them.
@@ -87,6 +108,14 @@ pub fn equal(a: &[u8], b: &[u8]) -> bool
         i += 1;
     }
     n == 0
+}
+
+// Whether word stands at i.
+pub fn stands_at(p: &[u8], i: usize, word: &[u8]) -> bool
+    ensures { λ r. ⌜ r ≡ standsAt (now (p .entry)) i (now (word .entry)) ⌝ }
+{
+    let t = part(p, i, word.len());
+    equal(t, word)
 }
 
 // The number that two octets stand for.
@@ -149,6 +178,17 @@ pub fn all_hex(either: bool, s: &[u8]) -> bool
         i += 1;
     }
     true
+}
+
+// Whether n hex digits stand at i.
+pub fn hex_stands(either: bool, p: &[u8], i: usize, n: usize) -> bool
+    ensures { λ r. ⌜ r ≡ hexStands either (now (p .entry)) i n ⌝ }
+{
+    let t = part(p, i, n);
+    if t.len() < n {
+        return false;
+    }
+    all_hex(either, t)
 }
 
 // The value of a hex digit of either case; 0 for any other octet.
@@ -285,4 +325,46 @@ pub fn number_of(s: &[u8]) -> u64
         i += 1;
     }
     acc
+}
+
+// A number's decimal digits: the last of ten octets, from start.
+struct Decimal {
+    digits: [u8; 10],
+    start: usize,
+}
+
+fn decimal_of(n: u64) -> Decimal
+    ensures { λ r. ⌜ DigitsFrom n (r .digits) (r .start) ⌝ }
+{
+    let mut digits = [0u8; 10];
+    let mut i = 10;
+    let mut m = n;
+    while 0 < i {
+        i -= 1;
+        digits[i] = 48 + (m % 10) as u8;
+        m = m / 10;
+        if m == 0 {
+            return Decimal { digits, start: i };
+        }
+    }
+    Decimal { digits, start: i }
+}
+
+// How many digits a number has in decimal.
+pub fn decimal_len(n: u64) -> usize
+    ensures { λ r. ⌜ r ≡ length (decimal n) ⌝ }
+{
+    let d = decimal_of(n);
+    let start = d.start;
+    10 - start
+}
+
+// Puts a number's decimal digits into dst from i where they fit; else dst stays as it is.
+pub fn put_decimal(dst: &mut [u8], i: usize, n: u64)
+    ensures { λ r. ⌜ now (dst .exit) ≡ put (now (dst .entry)) i (decimal n) ⌝ }
+{
+    let d = decimal_of(n);
+    let digits = d.digits;
+    let start = d.start;
+    put_at(dst, i, rest(&digits, start));
 }
