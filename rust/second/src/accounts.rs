@@ -1,0 +1,84 @@
+//! The account table: lent octets, records end to end (document 01, "Account table").
+
+use crate::number::{BAD_ARGUMENT, BAD_TABLE};
+use crate::{Octets16, MAX_NAME, MAX_TABLE};
+
+/// What the table says of a user.
+#[derive(Clone, Copy, PartialEq, Eq, Debug)]
+pub struct Account {
+    /// 0, or the error that a right Response is told.
+    pub code: u16,
+    pub hash: Octets16,
+}
+
+const RECORD_HEADER: usize = 4;
+const ACCOUNT_KIND: u16 = 1;
+const ACCOUNT_NAME: usize = 22;
+const MAX_ACCOUNT: usize = ACCOUNT_NAME + MAX_NAME;
+
+/// 21 for a malformed table.
+pub fn check(table: &[u8]) -> Result<(), u8> {
+    each_account(table, |_, _| ())
+}
+
+/// The first account whose name equals the user octet for octet; 21 for a malformed table, then
+/// 23 for a user over 256 octets.
+pub fn find(table: &[u8], user: &[u8]) -> Result<Option<Account>, u8> {
+    let mut found = None;
+    each_account(table, |account, name| {
+        if found.is_none() && name == user {
+            found = Some(account);
+        }
+    })?;
+    if user.len() > MAX_NAME {
+        return Err(BAD_ARGUMENT);
+    }
+    Ok(found)
+}
+
+/// Shows every account and its name in turn, or answers 21 for a record of another form.
+fn each_account(mut table: &[u8], mut show: impl FnMut(Account, &[u8])) -> Result<(), u8> {
+    if table.len() > MAX_TABLE {
+        return Err(BAD_TABLE);
+    }
+    while !table.is_empty() {
+        let (record, rest) = first_record(table).ok_or(BAD_TABLE)?;
+        if word(record, 2) == ACCOUNT_KIND {
+            let (account, name) = account_form(record).ok_or(BAD_TABLE)?;
+            show(account, name);
+        }
+        table = rest;
+    }
+    Ok(())
+}
+
+/// The length counts the whole record, is 4 or more and stays within the table.
+fn first_record(table: &[u8]) -> Option<(&[u8], &[u8])> {
+    if table.len() < RECORD_HEADER {
+        return None;
+    }
+    let length = usize::from(word(table, 0));
+    if length < RECORD_HEADER {
+        return None;
+    }
+    table.split_at_checked(length)
+}
+
+/// Kind 1: code, hash and name.
+fn account_form(record: &[u8]) -> Option<(Account, &[u8])> {
+    if !(ACCOUNT_NAME..=MAX_ACCOUNT).contains(&record.len()) {
+        return None;
+    }
+    let code = word(record, 4);
+    if !matches!(code, 0 | 646..=649) {
+        return None;
+    }
+    let mut hash = [0; 16];
+    hash.copy_from_slice(&record[6..ACCOUNT_NAME]);
+    Some((Account { code, hash }, &record[ACCOUNT_NAME..]))
+}
+
+/// The little-endian number of two octets.
+fn word(octets: &[u8], at: usize) -> u16 {
+    u16::from_le_bytes([octets[at], octets[at + 1]])
+}
