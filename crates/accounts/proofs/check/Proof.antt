@@ -1,0 +1,15 @@
+use Rattle.accounts.specs.Accounts.{checkNumber}
+use Rattle.octets.proofs.Exits.{exits}
+use Rattle.accounts.proofs.Walks.{seen-sound}
+use Rattle.accounts.proofs.check.Statement.{statement}
+use Rattle.accounts.proofs.check.Tie as tie
+
+pub check-spec : {M : Type 1} → statement M
+unfolding checkNumber
+check-spec =
+    tie.close
+    (tie.spec
+    (λ c. search (exits, seen-sound))
+    (λ c κs. search (exits, seen-sound))
+    (λ c. search (exits, seen-sound))
+    (λ c. search (exits, seen-sound)))

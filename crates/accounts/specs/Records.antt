@@ -1,0 +1,71 @@
+-- 01, "Account table": octets as records end to end, whatever the kinds of the records.
+use Prim.Native.Nat.{ℕ, zero, suc, _+_, _-_, _≤_}
+use mathlib.Core.Path.{_≡_}
+use mathlib.Core.List.{List, [], _∷_}
+use mathlib.Core.Bool.{Bool, true, false, _&&_}
+use lib.ListN.{length, take, drop}
+use lib.Dec.{leb}
+use Rattle.octets.specs.Choice.{pick}
+use Rattle.octets.specs.Octets.{numberAt}
+use Rattle.octets.specs.declared.Order.the-variants.{Little}
+
+-- ---- a record: "length (2 octets, little-endian, counting the whole record), kind (2 octets, little-endian), body"
+abbrev pub lengthOf : List ℕ → ℕ
+lengthOf r = numberAt Little r 0
+
+abbrev pub kindOf : List ℕ → ℕ
+kindOf r = numberAt Little r 2
+
+abbrev pub bodyOf : List ℕ → List ℕ
+bodyOf r = drop 4 r
+
+-- framing: whether r begins with a record, whose length is 4 or more and stays inside r
+unfoldable pub framed : List ℕ → Bool
+framed r = leb 4 (lengthOf r) && leb (lengthOf r) (length r)
+
+-- that record; no octets where r begins with none
+unfoldable pub head : List ℕ → List ℕ
+head r = pick (framed r) (take (lengthOf r) r) []
+
+-- q is the record at `at`, and lies inside the table
+pub record Stands (t : List ℕ) (at : ℕ) (q : List ℕ) : Type 0 where
+  pub is : q ≡ head (drop at t)
+  pub inside : length q ≤ length t - at
+
+-- ---- all records
+-- the octets cut into records, once k octets are passed. Where no record begins, all that is left is the last piece
+unfoldable pub cut : ℕ → List ℕ → List (List ℕ)
+cut k [] = []
+cut (suc k) (x ∷ xs) = cut k xs
+cut zero (x ∷ xs) =
+    pick (framed (x ∷ xs))
+    (take (lengthOf (x ∷ xs)) (x ∷ xs) ∷ cut (lengthOf (x ∷ xs) - 1) xs)
+    ((x ∷ xs) ∷ [])
+
+unfoldable pub records : List ℕ → List (List ℕ)
+records t = cut 0 t
+
+unfoldable pub every : {A : Type 0} → (A → Bool) → List A → Bool
+every p [] = true
+every p (x ∷ xs) = pick (p x) (every p xs) false
+
+-- whether the octets are records end to end, each of which passes a test of its kind
+unfoldable pub sound : (List ℕ → Bool) → List ℕ → Bool
+sound good t = every (λ r. framed r && good r) (records t)
+
+-- ---- the records with their places
+-- a record and its place, where its first octet stands in the table
+pub record Entry : Type 0 where
+  pub place : ℕ
+  pub octets : List ℕ
+
+abbrev pub entry : ℕ → List ℕ → Entry
+entry at r = record { place = at; octets = r }
+
+-- records end to end, the first of them at `at`
+unfoldable pub placed : ℕ → List (List ℕ) → List Entry
+placed at [] = []
+placed at (r ∷ rs) = entry at r ∷ placed (at + length r) rs
+
+unfoldable pub entries : List ℕ → List Entry
+entries t = placed 0 (records t)

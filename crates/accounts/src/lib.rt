@@ -1,0 +1,197 @@
+// The account table of document 01: whether it is well formed, and the account of a user.
+ghost use mathlib.Core.Path.{_≡_};
+ghost use Prim.Native.Nat.{_≤_};
+ghost use Rattle.answer.specs.Answer.{numberOf};
+ghost use Rattle.answer.specs.Outcome.{gives};
+ghost use Rattle.accounts.specs.Records.{Stands, entry};
+ghost use Rattle.accounts.specs.Accounts.{codeOf, isCode, accountGood, recordGood, isAccountOf, accountIn, earlier, seen, checkNumber, findTold, toldFound};
+use answer::Answer;
+use answer::Refusal;
+use octets::Order;
+use octets::equal;
+use octets::number_at;
+use octets::octet;
+use octets::part;
+use octets::rest;
+
+// What a table holds of a user: no account, or one, with its code and where in the table its hash of 16 octets begins.
+pub enum Lookup {
+    Absent,
+    Account { code: u16, hash: usize },
+}
+
+// The same with the refusals 21 and 23.
+pub enum Found {
+    Malformed,
+    BadUser,
+    Absent,
+    Account { code: u16, hash: usize },
+}
+
+// What a walk sees: whether the table is well formed, and then what it holds of the user.
+struct Seen {
+    sound: bool,
+    lookup: Lookup,
+}
+
+const MALFORMED: Seen = Seen {
+    sound: false,
+    lookup: Lookup::Absent,
+};
+
+// The record at `at`; no octets where none begins there.
+fn record_at(table: &[u8], at: usize) -> &[u8]
+    ensures { λ r. ⌜ Stands (now (table .entry)) at (now r) ⌝ }
+{
+    let left = rest(table, at);
+    let n = number_at(Order::Little, left, 0);
+    if n < 4 {
+        return &left[0..0];
+    }
+    if left.len() < n {
+        return &left[0..0];
+    }
+    part(left, 0, n)
+}
+
+// The code of a kind-1 record.
+fn code_of(item: &[u8]) -> u16
+    ensures { λ r. ⌜ r ≡ codeOf (now (item .entry)) ⌝ }
+{
+    let low = octet(item, 4);
+    let high = octet(item, 5);
+    (low as u16) + (high as u16) * 256
+}
+
+fn is_code(code: u16) -> bool
+    ensures { λ r. ⌜ r ≡ isCode code ⌝ }
+{
+    match code {
+        0 => true,
+        646 => true,
+        647 => true,
+        648 => true,
+        649 => true,
+        _ => false,
+    }
+}
+
+fn account_good(item: &[u8]) -> bool
+    ensures { λ r. ⌜ r ≡ accountGood (now (item .entry)) ⌝ }
+{
+    if item.len() < 22 {
+        return false;
+    }
+    if 278 < item.len() {
+        return false;
+    }
+    is_code(code_of(item))
+}
+
+// Whether a record keeps to the form of its kind.
+fn record_good(item: &[u8]) -> bool
+    ensures { λ r. ⌜ r ≡ recordGood (now (item .entry)) ⌝ }
+{
+    let kind = number_at(Order::Little, item, 2);
+    if kind == 1 {
+        return account_good(item);
+    }
+    true
+}
+
+// Whether a record is an account of the user.
+fn is_account_of(user: &[u8], item: &[u8]) -> bool
+    ensures { λ r. ⌜ r ≡ isAccountOf (now (user .entry)) (now (item .entry)) ⌝ }
+{
+    let kind = number_at(Order::Little, item, 2);
+    if kind == 1 {
+        let name = rest(item, 22);
+        return equal(name, user);
+    }
+    false
+}
+
+// What the record at `at` tells of the user.
+fn account_in(user: &[u8], at: usize, item: &[u8]) -> Lookup
+    requires { ⌜ at ≤ 65536 ⌝ }
+    ensures { λ r. ⌜ r ≡ accountIn (now (user .entry)) (entry at (now (item .entry))) ⌝ }
+{
+    if is_account_of(user, item) {
+        let code = code_of(item);
+        return Lookup::Account { code, hash: at + 6 };
+    }
+    Lookup::Absent
+}
+
+// What was kept before, or else what the record at `at` tells. The record is looked at in any case.
+fn keep(kept: Lookup, user: &[u8], at: usize, item: &[u8]) -> Lookup
+    requires { ⌜ at ≤ 65536 ⌝ }
+    ensures { λ r. ⌜ r ≡ earlier kept (accountIn (now (user .entry)) (entry at (now (item .entry)))) ⌝ }
+{
+    let here = account_in(user, at, item);
+    match kept {
+        Lookup::Absent => here,
+        Lookup::Account { code: _, hash: _ } => kept,
+    }
+}
+
+// One walk over the whole table, past the user's account too.
+fn walk(table: &[u8], user: &[u8]) -> Seen
+    ensures { λ r. ⌜ r ≡ seen (now (table .entry)) (now (user .entry)) ⌝ }
+{
+    if 65536 < table.len() {
+        return MALFORMED;
+    }
+    let mut kept = Lookup::Absent;
+    let mut at = 0;
+    while at < table.len() {
+        let item = record_at(table, at);
+        if item.len() == 0 {
+            return MALFORMED;
+        }
+        if !record_good(item) {
+            return MALFORMED;
+        }
+        kept = keep(kept, user, at, item);
+        at = at + item.len();
+    }
+    Seen {
+        sound: true,
+        lookup: kept,
+    }
+}
+
+// Whether a table is well formed: answers 0 or 21.
+pub fn check(table: &[u8]) -> Answer
+    ensures { λ r. ⌜ numberOf r ≡ checkNumber (now (table .entry)) ⌝ }
+{
+    let s = walk(table, b"");
+    if !s.sound {
+        return Answer::Refused(Refusal::BadTable);
+    }
+    Answer::Written
+}
+
+fn found_of(lookup: Lookup) -> Found
+    ensures { λ r. ⌜ toldFound r ≡ gives lookup ⌝ }
+{
+    match lookup {
+        Lookup::Absent => Found::Absent,
+        Lookup::Account { code, hash } => Found::Account { code, hash },
+    }
+}
+
+// The account of a user, the first in the table that has its name.
+pub fn find(table: &[u8], user: &[u8]) -> Found
+    ensures { λ r. ⌜ toldFound r ≡ findTold (now (table .entry)) (now (user .entry)) ⌝ }
+{
+    let s = walk(table, user);
+    if !s.sound {
+        return Found::Malformed;
+    }
+    if 256 < user.len() {
+        return Found::BadUser;
+    }
+    let lookup = s.lookup;
+    found_of(lookup)
+}
