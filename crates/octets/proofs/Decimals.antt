@@ -2,14 +2,11 @@
 use Prim.Native.Nat.{ℕ, zero, suc, _+_, _-_, _*_, _/_, _%_, _≤_, _<_}
 use mathlib.Core.Path.{_≡_, refl, sym, ap, _∙_}
 use mathlib.Core.List.{List, [], _∷_, _++_, append-assoc, append-nil}
-use mathlib.Core.Bool.{Bool, true, false}
 use native.Mathlib.Omega.{arith}
-use lib.ListN.{length, getD, drop, set, length-set, length-append, length-drop, drop-of-length-le}
+use lib.ListN.{length, drop, set, length-set, length-append, length-drop, drop-of-length-le}
 use lib.Seq.{drop-cons, drop-set-lt, getD-set-same}
-use lib.Dec.{ltb}
 use borrow.Author.Tests.{lt-ltb, le-ltb}
 use borrow.Author.Needs.{needs}
-use Rattle.octets.specs.Choice.{pick}
 use Rattle.octets.specs.Octets.{decimals, decimal, DigitsFrom, digits, digitValue, numberFrom, number, isDigit}
 use Rattle.octets.proofs.Exits.{pick-true, pick-false, below}
 use Rattle.octets.proofs.Scans.{ten}

@@ -102,6 +102,9 @@ told-2 {A} f a b x r e h = h ∙ sym (ap (λ (z : A). f z x) e)
 pub told-3 : {A B C D : Type 0} (f : A → B → C → D) (a b : A) (x : B) (y : C) (r : D) → a ≡ b → r ≡ f b x y → r ≡ f a x y
 told-3 {A} f a b x y r e h = h ∙ sym (ap (λ (z : A). f z x y) e)
 
+pub told-5 : {A B C D E F : Type 0} (f : A → B → C → D → E → F) (a b : A) (x : B) (y : C) (z : D) (w : E) (r : F) → a ≡ b → r ≡ f b x y z w → r ≡ f a x y z w
+told-5 {A} f a b x y z w r e h = h ∙ sym (ap (λ (v : A). f v x y z w) e)
+
 pub ruleset tests = (pick-true, pick-false, lt-ltb, le-ltb, le-leb, lt-leb, eq-eqb, ne-eqb)
 
 -- in the definition's order, with calls

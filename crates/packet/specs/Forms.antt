@@ -1,0 +1,79 @@
+-- 01, "Packet forms": the octets of each packet.
+use Prim.Native.Nat.{ℕ, _+_, _-_, _/_, _%_}
+use mathlib.Core.List.{List, [], _∷_, _++_}
+use lib.ListN.{length}
+use Rattle.octets.specs.Lists.{cells}
+use Rattle.octets.specs.Octets.{hexAt, decimal}
+
+-- ---- the two messages, in ASCII
+-- `S=`
+abbrev pub wordS : List ℕ
+wordS = 83 ∷ 61 ∷ []
+
+-- `E=`
+abbrev pub wordE : List ℕ
+wordE = 69 ∷ 61 ∷ []
+
+-- ` R=`
+abbrev pub wordR : List ℕ
+wordR = 32 ∷ 82 ∷ 61 ∷ []
+
+-- ` C=`
+abbrev pub wordC : List ℕ
+wordC = 32 ∷ 67 ∷ 61 ∷ []
+
+-- ` V=`
+abbrev pub wordV : List ℕ
+wordV = 32 ∷ 86 ∷ 61 ∷ []
+
+-- ` M=`
+abbrev pub wordM : List ℕ
+wordM = 32 ∷ 77 ∷ 61 ∷ []
+
+-- `S=`, 40 digits, ` M=`, then any octets or none
+unfoldable pub successMessage : List ℕ → List ℕ → List ℕ
+successMessage s text = wordS ++ (s ++ (wordM ++ text))
+
+-- `E=` 1 to 10 digits, ` R=` a digit, ` C=` 32 digits, ` V=` 1 to 10 digits, ` M=`, then any octets or none
+unfoldable pub failureMessage : List ℕ → ℕ → List ℕ → List ℕ → List ℕ → List ℕ
+failureMessage e r c v text = wordE ++ (e ++ (wordR ++ (r ∷ (wordC ++ (c ++ (wordV ++ (v ++ (wordM ++ text))))))))
+
+-- ---- the first four packets: Code, Identifier, L, Type 26, OpCode, MS-CHAPv2-ID, MS-Length = L - 5, and the rest
+unfoldable pub header : ℕ → ℕ → ℕ → ℕ → ℕ → List ℕ
+header code op id chapid l = code ∷ id ∷ (l / 256) ∷ (l % 256) ∷ 26 ∷ op ∷ chapid ∷ ((l - 5) / 256) ∷ ((l - 5) % 256) ∷ []
+
+unfoldable pub chapPacket : ℕ → ℕ → ℕ → ℕ → List ℕ → List ℕ
+chapPacket code op id chapid body = header code op id chapid (9 + length body) ++ body
+
+-- Value-Size 16, challenge, name
+unfoldable pub challengePacket : ℕ → ℕ → List ℕ → List ℕ → List ℕ
+challengePacket id chapid challenge name = chapPacket 1 1 id chapid (16 ∷ (challenge ++ name))
+
+abbrev pub eightZeros : List ℕ
+eightZeros = 0 ∷ 0 ∷ 0 ∷ 0 ∷ 0 ∷ 0 ∷ 0 ∷ 0 ∷ []
+
+-- Value-Size 49, peer challenge, eight zeros, NT-Response, flags zero, name
+unfoldable pub responsePacket : ℕ → ℕ → List ℕ → List ℕ → List ℕ → List ℕ
+responsePacket id chapid peer response name = chapPacket 2 2 id chapid (49 ∷ (peer ++ (eightZeros ++ (response ++ (0 ∷ name)))))
+
+-- the string of 20 octets in upper case
+unfoldable pub successRequest : ℕ → ℕ → List ℕ → List ℕ → List ℕ
+successRequest id chapid string text = chapPacket 1 3 id chapid (successMessage (cells 40 (hexAt string)) text)
+
+-- no leading zeros, R as its digit, C in upper case, V=3
+unfoldable pub failureRequest : ℕ → ℕ → ℕ → ℕ → List ℕ → List ℕ → List ℕ
+failureRequest id chapid code retry challenge text =
+    chapPacket 1 4 id chapid (failureMessage (decimal code) (48 + retry) (cells 32 (hexAt challenge)) (51 ∷ []) text)
+
+-- ---- the others
+abbrev pub successResponse : ℕ → List ℕ
+successResponse id = 2 ∷ id ∷ 0 ∷ 6 ∷ 26 ∷ 3 ∷ []
+
+abbrev pub failureResponse : ℕ → List ℕ
+failureResponse id = 2 ∷ id ∷ 0 ∷ 6 ∷ 26 ∷ 4 ∷ []
+
+abbrev pub eapSuccess : ℕ → List ℕ
+eapSuccess id = 3 ∷ id ∷ 0 ∷ 4 ∷ []
+
+abbrev pub eapFailure : ℕ → List ℕ
+eapFailure id = 4 ∷ id ∷ 0 ∷ 4 ∷ []
