@@ -1,23 +1,17 @@
--- Laws of records end to end.
+-- Laws of records end to end: the framing of one, the one at a place, the list of all.
 use Prim.Native.Nat.{ℕ, zero, suc, _+_, _-_, _<_, _≤_}
 use native.Mathlib.Nat.{not-suc-le-zero, le-of-suc-le-suc}
 use native.Mathlib.Omega.{arith}
 use mathlib.Core.Path.{_≡_, refl, sym, ap, _∙_}
-use mathlib.Core.List.{List, [], _∷_, _++_}
-use mathlib.Core.Bool.{Bool, true, false, _&&_}
+use mathlib.Core.List.{List, [], _∷_}
+use mathlib.Core.Bool.{true, false}
 use lib.ListN.{length, take, drop, length-drop, drop-of-length-le}
-use lib.Seq.{drop-drop, length-take-le, getD-take}
+use lib.Seq.{drop-drop, length-take-le}
 use borrow.Author.Tests.{le-leb, lt-leb, leb-true}
-use Rattle.octets.specs.Choice.{pick}
-use Rattle.octets.specs.Octets.{pairOf, numberAt}
-use Rattle.octets.specs.declared.Order.{Order}
 use Rattle.octets.specs.declared.Order.the-variants.{Little}
-use Rattle.octets.proofs.Exits.{exits, pick-true, pick-false, tested, and-both, and-first, and-second}
-use Rattle.accounts.specs.Records.{lengthOf, framed, head, Stands, cut}
-
-pub both : (a b : Bool) → (a && b) ≡ true → (a ≡ true) × (b ≡ true)
-both true b e = (refl, e)
-both false b e = (e, cc)
+use Rattle.octets.proofs.Parts.{number-take}
+use Rattle.octets.proofs.Exits.{exits, pick-true, pick-false, tested, both, and-both, and-first, and-second}
+use Rattle.accounts.specs.Records.{lengthOf, framed, head, Stands, cut, records}
 
 -- ---- framing
 pub record Framed (r : List ℕ) : Type 0 where
@@ -60,34 +54,30 @@ module _ (t l : List ℕ) (at n : ℕ) (d : l ≡ drop at t) (e : n ≡ lengthOf
         inside = rw p (omega (arith, length-take-le n l k, length-drop at t, ap length d));
       }
 
--- ---- the walk and the list of records
+pub ruleset stands = (exits, stands-short, stands-past, stands-here)
+
+-- ---- the list of records
 cut-skip : (k : ℕ) (l : List ℕ) → k ≤ length l → cut k l ≡ cut 0 (drop k l)
 unfolding cut
 cut-skip zero l h = refl
 cut-skip (suc k) [] h = absurd (not-suc-le-zero h)
 cut-skip (suc k) (x ∷ xs) h = cut-skip k xs (le-of-suc-le-suc h)
 
--- a record is cut off
-pub cut-record : (r : List ℕ) → framed r ≡ true → cut 0 r ≡ take (lengthOf r) r ∷ cut 0 (drop (lengthOf r) r)
-unfolding cut
-cut-record [] e = let f = framed-so [] e in absurd (omega arith)
-cut-record (x ∷ xs) e =
+-- the record that r begins with comes first
+pub records-next : (r : List ℕ) → framed r ≡ true → records r ≡ take (lengthOf r) r ∷ records (drop (lengthOf r) r)
+unfolding records cut
+records-next [] e = let f = framed-so [] e in absurd (omega arith)
+records-next (x ∷ xs) e =
     let f = framed-so (x ∷ xs) e in
     let n : ℕ = lengthOf (x ∷ xs) in
     let p : suc (n - 1) ≡ n = omega arith in
     pick-true _ _ _ e ∙ ap (λ (rs : List (List ℕ)). take n (x ∷ xs) ∷ rs) (cut-skip (n - 1) xs (omega arith) ∙ ap (λ (m : ℕ). cut 0 (drop m (x ∷ xs))) p)
 
--- where no record begins, the rest is one piece
-pub cut-rest : (r : List ℕ) → 0 < length r → framed r ≡ false → cut 0 r ≡ r ∷ []
-unfolding cut
-cut-rest [] h e = absurd (not-suc-le-zero h)
-cut-rest (x ∷ xs) h e = pick-false _ _ _ e
-
-number-take : (o : Order) (n : ℕ) (r : List ℕ) (i : ℕ) → i + 1 < n → numberAt o (take n r) i ≡ numberAt o r i
-unfolding numberAt
-number-take o n r i h =
-    let k : i < n = omega arith in
-    (λ j. pairOf o (getD-take n r i 0 k j) (getD-take n r (i + 1) 0 h j))
+-- where r begins with none, it is the last piece
+pub records-stop : (r : List ℕ) → 0 < length r → framed r ≡ false → records r ≡ r ∷ []
+unfolding records cut
+records-stop [] h e = absurd (not-suc-le-zero h)
+records-stop (x ∷ xs) h e = pick-false _ _ _ e
 
 -- a record that is cut off is framed too, and as long as its length says
 pub framed-take : (r : List ℕ) → framed r ≡ true → (framed (take (lengthOf r) r) ≡ true) × (length (take (lengthOf r) r) ≡ lengthOf r)
@@ -97,15 +87,14 @@ framed-take r e =
     let n = number-take Little (lengthOf r) r 0 (omega arith) in
     (so-framed _ (record { low = omega arith; high = omega arith }), l)
 
--- the record at a place of a table is the next of the list of records
+-- ---- a walk by place and the list: the record at a place is the next of the list, and where none begins the list ends
 pub record Next (t : List ℕ) (at : ℕ) (q : List ℕ) : Type 0 where
   pub framed : framed q ≡ true
-  pub cuts : cut 0 (drop at t) ≡ q ∷ cut 0 (drop (at + length q) t)
+  pub is : records (drop at t) ≡ q ∷ records (drop (at + length q) t)
 
--- and where none begins the list ends in a piece that is no record
 pub record Stops (t : List ℕ) (at : ℕ) : Type 0 where
   pub framed : framed (drop at t) ≡ false
-  pub cuts : cut 0 (drop at t) ≡ drop at t ∷ []
+  pub is : records (drop at t) ≡ drop at t ∷ []
 
 module _ (t : List ℕ) (at : ℕ) (q : List ℕ) (s : Stands t at q) where
   pub next : (length q ≡ 0 → ⊥) → Next t at q
@@ -119,15 +108,17 @@ module _ (t : List ℕ) (at : ℕ) (q : List ℕ) (s : Stands t at q) where
           let l : length q ≡ lengthOf (drop at t) = ap length e ∙ p .1 in
           record {
             framed = rw e (p .0);
-            cuts = cut-record (drop at t) f ∙ rw (← e, ← l, drop-drop (length q) at t);
+            is = records-next (drop at t) f ∙ rw (← e, ← l, drop-drop (length q) at t);
           }
 
   pub stops : at < length t → length q ≡ 0 → Stops t at
-  stops h z = tested (framed (drop at t)) so (λ f. record { framed = f; cuts = cut-rest (drop at t) (omega (arith, length-drop at t)) f })
+  stops h z = tested (framed (drop at t)) so (λ f. record { framed = f; is = records-stop (drop at t) (omega (arith, length-drop at t)) f })
     where
       so : framed (drop at t) ≡ true → Stops t at
       so f =
           let n = framed-so (drop at t) f in
           absurd (omega (arith, framed-take (drop at t) f .1, ap length (s .is ∙ head-framed (drop at t) f)))
 
-pub ruleset stands = (exits, stands-short, stands-past, stands-here)
+pub ends : (t : List ℕ) (at : ℕ) → length t ≤ at → records (drop at t) ≡ []
+unfolding records cut
+ends t at h = rw (drop-of-length-le t h)

@@ -1,26 +1,27 @@
 -- The walk over a table, turn by turn, and one answer for its needs: `search walks`.
-use Prim.Native.Nat.{ℕ, _+_, _<_, _≤_}
+use Prim.Native.Nat.{ℕ, _+_, _-_, _<_, _≤_}
 use mathlib.Core.Path.{_≡_, refl, sym, ap, _∙_}
 use mathlib.Core.List.{List, [], _∷_}
 use mathlib.Core.Bool.{Bool, true, false, not, _&&_}
 use native.Mathlib.Omega.{arith}
-use lib.ListN.{length, drop, drop-of-length-le}
-use borrow.Author.Tests.{lt-ltb, le-ltb, not-false}
+use lib.ListN.{length, drop}
+use lib.Dec.{eqb}
+use borrow.Author.Tests.{lt-ltb, le-ltb, eqb-true, eqb-false, not-false}
 use Rattle.octets.specs.Choice.{pick}
-use Rattle.octets.proofs.Exits.{exits, pick-true, pick-false, and-both, and-first, and-second, gave-not, gave-true, gave-false}
+use Rattle.octets.proofs.Exits.{exits, pick-true, pick-false, passed, tested, and-both, and-first, and-second, gave-not, gave-true, gave-false}
 use Rattle.answer.specs.Outcome.{Told, gives}
-use Rattle.accounts.specs.Records.{framed, Stands, cut, records, every, sound, entry, placed, entries}
-use Rattle.accounts.specs.Accounts.{recordGood, wellFormed, accountIn, earlier, first, accountOf, malformed, holds, seen, findTold}
+use Rattle.accounts.specs.Records.{framed, Stands, records, every, sound, entry, placed, entries}
+use Rattle.accounts.specs.Accounts.{recordGood, itemGood, wellFormed, accountIn, earlier, first, accountOf, malformed, holds, seen, findTold}
 use Rattle.accounts.specs.declared.Lookup.{Lookup}
 use Rattle.accounts.specs.declared.Lookup.the-variants.{Absent, Account}
 use Rattle.accounts.specs.declared.Seen.{Seen}
-use Rattle.accounts.proofs.Records.{Next, next, Stops, stops}
+use Rattle.accounts.proofs.Records.{next, stops, ends}
 
 earlier-none : (k : Lookup) → earlier k Absent ≡ k
 earlier-none Absent = refl
 earlier-none (Account code hash) = refl
 
-earlier-assoc : (k l m : Lookup) → earlier k (earlier l m) ≡ earlier (earlier k l) m
+pub earlier-assoc : (k l m : Lookup) → earlier k (earlier l m) ≡ earlier (earlier k l) m
 earlier-assoc Absent l m = refl
 earlier-assoc (Account code hash) l m = refl
 
@@ -44,36 +45,49 @@ sees-none user k at = pick-true _ _ _ refl ∙ ap holds (earlier-none k)
 -- ---- the loop: all before `at` is behind, with k kept of it
 pub record Walking (t user : List ℕ) (k : Lookup) (at : ℕ) : Type 0 where
   pub most : at ≤ length t
-  pub is : seen t user ≡ sees user k at (cut 0 (drop at t))
+  pub is : seen t user ≡ sees user k at (records (drop at t))
 
 pub walk-long : (t user : List ℕ) → 65536 < length t → malformed ≡ seen t user
 unfolding seen wellFormed
 walk-long t user h = sym (pick-false _ _ _ (pick-true _ _ _ (lt-ltb _ _ h)))
 
 pub walk-none : (t user : List ℕ) → length t ≤ 65536 → Walking t user Absent 0
-unfolding seen wellFormed sound accountOf entries records sees
+unfolding seen wellFormed sound accountOf entries sees
 walk-none t user h = record { most = omega arith; is = ap (λ (b : Bool). pick b (holds (accountOf t user)) malformed) (pick-false _ _ _ (le-ltb _ _ h)) }
 
-module _ (t user : List ℕ) (k : Lookup) (at : ℕ) (q : List ℕ) (w : Walking t user k at) (s : Stands t at q) where
-  pub walk-stop : at < length t → length q ≡ 0 → malformed ≡ seen t user
-  walk-stop h z =
-      let p = stops t at q s h z in
-      sym (w .is ∙ ap (sees user k at) (p .cuts) ∙ sees-bad user k at (drop at t) [] (and-first _ _ (p .framed)))
+-- a turn at the record q, or at none
+module _ (t user : List ℕ) (k : Lookup) (at : ℕ) (q : List ℕ) (w : Walking t user k at) (h : at < length t) (s : Stands t at q) where
+  pub walk-bad : itemGood q ≡ false → malformed ≡ seen t user
+  unfolding itemGood
+  walk-bad g = tested (eqb (length q) 0) none off
+    where
+      none : eqb (length q) 0 ≡ true → malformed ≡ seen t user
+      none z = let p = stops t at q s h (eqb-true _ _ z) in sym (w .is ∙ ap (sees user k at) (p .is) ∙ sees-bad user k at (drop at t) [] (and-first _ _ (p .framed)))
 
-  module _ (z : length q ≡ 0 → ⊥) where
-    pub walk-bad : recordGood q ≡ false → malformed ≡ seen t user
-    walk-bad g =
-        let p = next t at q s z in
-        sym (w .is ∙ ap (sees user k at) (p .cuts) ∙ sees-bad user k at q _ (and-second _ _ (p .framed) g))
+      off : eqb (length q) 0 ≡ false → malformed ≡ seen t user
+      off z =
+          let p = next t at q s (eqb-false _ _ z) in
+          sym (w .is ∙ ap (sees user k at) (p .is) ∙ sees-bad user k at q _ (and-second _ _ (p .framed) (sym (pick-false _ _ _ z) ∙ g)))
 
-    pub walk-more : (m : Lookup) → at < length t → recordGood q ≡ true → m ≡ earlier k (accountIn user (entry at q)) → Walking t user m (at + length q)
-    walk-more m h g e =
-        let p = next t at q s z in
-        record { most = omega arith; is = w .is ∙ ap (sees user k at) (p .cuts) ∙ sees-more user k at q _ (p .framed) g ∙ rw e }
+  module _ (g : itemGood q ≡ true) where
+    there : length q ≡ 0 → ⊥
+    unfolding itemGood
+    there = eqb-false _ _ (passed _ _ g .0)
+
+    formed : recordGood q ≡ true
+    unfolding itemGood
+    formed = passed _ _ g .1
+
+    pub walk-less : length t - (at + length q) < length t - at
+    walk-less = let z : length q ≡ 0 → ⊥ = there in omega arith
+
+    pub walk-more : (m : Lookup) → m ≡ earlier k (accountIn user (entry at q)) → Walking t user m (at + length q)
+    walk-more m e =
+        let p = next t at q s there in
+        record { most = omega arith; is = w .is ∙ ap (sees user k at) (p .is) ∙ sees-more user k at q _ (p .framed) formed ∙ rw e }
 
 pub walk-done : (t user : List ℕ) (k : Lookup) (at : ℕ) → Walking t user k at → length t ≤ at → holds k ≡ seen t user
-unfolding cut
-walk-done t user k at w h = sym (w .is ∙ rw (drop-of-length-le t h) (sees-none user k at))
+walk-done t user k at w h = sym (w .is ∙ ap (sees user k at) (ends t at h) ∙ sees-none user k at)
 
 -- ---- what the walk saw
 module _ (t user : List ℕ) (s : Seen) (e : s ≡ seen t user) where
@@ -94,4 +108,4 @@ module _ (t user : List ℕ) (s : Seen) (e : s ≡ seen t user) where
   seen-gives x h k f =
       f ∙ ap gives (seen-lookup (not-false _ h)) ∙ sym (pick-false _ _ _ (gave-not _ _ _ seen-sound h) ∙ pick-false _ _ _ (le-ltb _ _ k))
 
-pub ruleset walks = (exits, gave-true, gave-false, walk-long, walk-none, walk-stop, walk-bad, walk-more, walk-done)
+pub ruleset walks = (exits, gave-true, gave-false, walk-long, walk-none, walk-bad, walk-less, walk-more, walk-done)

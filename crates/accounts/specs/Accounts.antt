@@ -79,7 +79,12 @@ toldFound found.BadUser = refuses 23 lookup.Absent
 toldFound found.Absent = gives lookup.Absent
 toldFound (found.Account code hash) = gives (lookup.Account code hash)
 
--- what one walk over the table sees: that it is malformed, or what it holds of the user
+-- ---- one walk over the table
+-- whether there is a record at a place, and it is good
+unfoldable pub itemGood : List ℕ → Bool
+itemGood q = pick (eqb (length q) 0) false (recordGood q)
+
+-- the walk sees that the table is malformed, or what it holds of the user
 abbrev pub malformed : Seen
 malformed = record { sound = false; lookup = lookup.Absent }
 

@@ -19,21 +19,12 @@ kindOf r = numberAt Little r 2
 abbrev pub bodyOf : List ℕ → List ℕ
 bodyOf r = drop 4 r
 
--- framing: whether r begins with a record, whose length is 4 or more and stays inside r
+-- framing: whether r begins with a record, whose length is 4 or more and stays inside r (so r has 4 octets or more)
 unfoldable pub framed : List ℕ → Bool
 framed r = leb 4 (lengthOf r) && leb (lengthOf r) (length r)
 
--- that record; no octets where r begins with none
-unfoldable pub head : List ℕ → List ℕ
-head r = pick (framed r) (take (lengthOf r) r) []
-
--- q is the record at `at`, and lies inside the table
-pub record Stands (t : List ℕ) (at : ℕ) (q : List ℕ) : Type 0 where
-  pub is : q ≡ head (drop at t)
-  pub inside : length q ≤ length t - at
-
 -- ---- all records
--- the octets cut into records, once k octets are passed. Where no record begins, all that is left is the last piece
+-- the octets cut into records, after k octets that are passed over. Where no record begins, all that is left is the last piece
 unfoldable pub cut : ℕ → List ℕ → List (List ℕ)
 cut k [] = []
 cut (suc k) (x ∷ xs) = cut k xs
@@ -69,3 +60,13 @@ placed at (r ∷ rs) = entry at r ∷ placed (at + length r) rs
 
 unfoldable pub entries : List ℕ → List Entry
 entries t = placed 0 (records t)
+
+-- ---- a walk by places
+-- the record that r begins with; no octets where it begins with none
+unfoldable pub head : List ℕ → List ℕ
+head r = pick (framed r) (take (lengthOf r) r) []
+
+-- q is the record at `at`, or no octets, and lies inside the table
+pub record Stands (t : List ℕ) (at : ℕ) (q : List ℕ) : Type 0 where
+  pub is : q ≡ head (drop at t)
+  pub inside : length q ≤ length t - at

@@ -4,7 +4,7 @@ ghost use Prim.Native.Nat.{_≤_};
 ghost use Rattle.answer.specs.Answer.{numberOf};
 ghost use Rattle.answer.specs.Outcome.{gives};
 ghost use Rattle.accounts.specs.Records.{Stands, entry};
-ghost use Rattle.accounts.specs.Accounts.{codeOf, isCode, accountGood, recordGood, isAccountOf, accountIn, earlier, seen, checkNumber, findTold, toldFound};
+ghost use Rattle.accounts.specs.Accounts.{codeOf, isCode, accountGood, recordGood, itemGood, isAccountOf, accountIn, earlier, seen, checkNumber, findTold, toldFound};
 use answer::Answer;
 use answer::Refusal;
 use octets::Order;
@@ -20,7 +20,7 @@ pub enum Lookup {
     Account { code: u16, hash: usize },
 }
 
-// The same with the refusals 21 and 23.
+// What `find` answers: 21, 23, or 0 with what the table holds of the user.
 pub enum Found {
     Malformed,
     BadUser,
@@ -28,7 +28,7 @@ pub enum Found {
     Account { code: u16, hash: usize },
 }
 
-// What a walk sees: whether the table is well formed, and then what it holds of the user.
+// What a walk sees: whether the table is well formed, and if so what it holds of the user.
 struct Seen {
     sound: bool,
     lookup: Lookup,
@@ -99,6 +99,16 @@ fn record_good(item: &[u8]) -> bool
     true
 }
 
+// Whether there is a record, and it keeps to the form of its kind.
+fn item_good(item: &[u8]) -> bool
+    ensures { λ r. ⌜ r ≡ itemGood (now (item .entry)) ⌝ }
+{
+    if item.len() == 0 {
+        return false;
+    }
+    record_good(item)
+}
+
 // Whether a record is an account of the user.
 fn is_account_of(user: &[u8], item: &[u8]) -> bool
     ensures { λ r. ⌜ r ≡ isAccountOf (now (user .entry)) (now (item .entry)) ⌝ }
@@ -123,19 +133,26 @@ fn account_in(user: &[u8], at: usize, item: &[u8]) -> Lookup
     Lookup::Absent
 }
 
-// What was kept before, or else what the record at `at` tells. The record is looked at in any case.
+// What the first of two tells, or else the second.
+fn earlier_of(one: Lookup, other: Lookup) -> Lookup
+    ensures { λ r. ⌜ r ≡ earlier one other ⌝ }
+{
+    match one {
+        Lookup::Absent => other,
+        Lookup::Account { code: _, hash: _ } => one,
+    }
+}
+
+// What was kept of the records before, or else what the record at `at` tells: it is looked at in any case.
 fn keep(kept: Lookup, user: &[u8], at: usize, item: &[u8]) -> Lookup
     requires { ⌜ at ≤ 65536 ⌝ }
     ensures { λ r. ⌜ r ≡ earlier kept (accountIn (now (user .entry)) (entry at (now (item .entry)))) ⌝ }
 {
     let here = account_in(user, at, item);
-    match kept {
-        Lookup::Absent => here,
-        Lookup::Account { code: _, hash: _ } => kept,
-    }
+    earlier_of(kept, here)
 }
 
-// One walk over the whole table, past the user's account too.
+// One walk, which goes on past the user's account to the end of the table.
 fn walk(table: &[u8], user: &[u8]) -> Seen
     ensures { λ r. ⌜ r ≡ seen (now (table .entry)) (now (user .entry)) ⌝ }
 {
@@ -146,10 +163,7 @@ fn walk(table: &[u8], user: &[u8]) -> Seen
     let mut at = 0;
     while at < table.len() {
         let item = record_at(table, at);
-        if item.len() == 0 {
-            return MALFORMED;
-        }
-        if !record_good(item) {
+        if !item_good(item) {
             return MALFORMED;
         }
         kept = keep(kept, user, at, item);

@@ -3,6 +3,7 @@
 use Prim.Native.Nat.{ℕ, _<_, _≤_}
 use mathlib.Core.Path.{_≡_, refl, sym, ap, _∙_}
 use mathlib.Core.Bool.{Bool, true, false, not, _&&_, _||_}
+use native.Mathlib.Omega.{arith}
 use lib.Dec.{eqb, ltb}
 use borrow.Author.Needs.{needs}
 use borrow.Author.Tests.{ltb-true, ltb-false, lt-ltb, le-ltb, le-leb, lt-leb, eq-eqb, ne-eqb}
@@ -21,6 +22,25 @@ pub arms : {A : Type 0} (P : A → Type 0) (b : Bool) {x y : A} → P x → P y 
 unfolding pick
 arms P true p q = p
 arms P false p q = q
+
+-- the same with what the test says
+pub picked : {A : Type 0} (P : A → Type 0) (b : Bool) {x y : A} → (b ≡ true → P x) → (b ≡ false → P y) → P (pick b x y)
+unfolding pick
+picked P true f g = f refl
+picked P false f g = g refl
+
+-- what a chain of tests that holds says of its first
+pub passed : (a b : Bool) → pick a false b ≡ true → (a ≡ false) × (b ≡ true)
+unfolding pick
+passed true b e = (sym e, cc)
+passed false b e = (refl, e)
+
+pub both : (a b : Bool) → (a && b) ≡ true → (a ≡ true) × (b ≡ true)
+both true b e = (refl, e)
+both false b e = (e, cc)
+
+pub clash : {A : Type 0} {b : Bool} → b ≡ false → b ≡ true → A
+clash p q = let z : _≡_ {A = ℕ} 0 1 = cc in absurd (omega arith)
 
 -- the two cases of a test, and of a comparison
 pub tested : {A : Type 0} (b : Bool) → (b ≡ true → A) → (b ≡ false → A) → A

@@ -1,5 +1,4 @@
-use Rattle.octets.proofs.Exits.{exits, told-2}
-use Rattle.accounts.specs.Accounts.{earlier}
+use Rattle.octets.proofs.Exits.{exits}
 use Rattle.accounts.proofs.keep.Statement.{statement}
 use Rattle.accounts.proofs.keep.Tie as tie
 
@@ -7,8 +6,6 @@ pub keep-spec : {M : Type 1} → statement M
 keep-spec =
     tie.close
     (tie.spec
-    (λ c κs. search (exits, told-2 earlier))
-    (λ c. search (exits, told-2 earlier))
-    (λ c. search (exits, told-2 earlier))
-    (λ c. search (exits, told-2 earlier))
-    (λ c. search (exits, told-2 earlier)))
+    (λ c κs. search exits)
+    (λ c κs. search exits)
+    (λ c. cc))

@@ -13,7 +13,6 @@ walk-spec =
     (λ c. search walks)
     (λ c. search walks)
     (λ c κs. search walks)
-    (λ c. search walks)
     (λ c κs. search walks)
     (λ c. search walks)
     (λ c κs. search walks)
