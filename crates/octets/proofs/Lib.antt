@@ -4,3 +4,4 @@ pub mod Lists
 pub mod Scans
 pub mod Parts
 pub mod Decimals
+pub mod Tables

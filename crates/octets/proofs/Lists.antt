@@ -7,7 +7,7 @@ use mathlib.Core.Logic.{⊎-elim}
 use mathlib.Core.Path.{_≡_, refl, sym, ap, _∙_}
 use mathlib.Core.List.{List, [], _∷_, _++_, append-assoc, append-nil}
 use lib.ListN.{length, take, drop, getD, length-append, length-drop, drop-of-length-le, List·getD-append}
-use lib.Seq.{length-take-le, take-append-seam, drop-append-add, drop-drop, getD-at, ext-getD}
+use lib.Seq.{length-take-le, take-all, take-append-seam, drop-append-add, drop-drop, getD-at, ext-getD}
 use borrow.Author.Tests.{le-leb}
 use Rattle.octets.specs.Choice.{pick}
 use Rattle.octets.specs.Lists.{cells, sized, over, pasted, put}
@@ -27,6 +27,11 @@ getD-cells (suc n) f k h =
     (λ l. List·getD-append (cells n f) (f n ∷ []) 0 k (rw (length-cells n f) l) ∙ getD-cells n f k l)
     (eq-or-lt-of-le (le-of-suc-le-suc h))
 
+pub cells-same : (n : ℕ) (f g : ℕ → ℕ) → ((k : ℕ) → k < n → f k ≡ g k) → cells n f ≡ cells n g
+cells-same n f g h =
+    ext-getD 0 (cells n f) (cells n g) (length-cells n f ∙ sym (length-cells n g))
+    (λ k l. let i : k < n = rw (length-cells n f) at l in getD-cells n f k i ∙ h k i ∙ sym (getD-cells n g k i))
+
 pub length-sized : (n : ℕ) (s : List ℕ) → length (sized n s) ≡ n
 unfolding sized
 length-sized n s = length-cells n (λ k. getD s k 0)
@@ -43,6 +48,10 @@ sized-append n s t e =
 
 pub sized-own : (n : ℕ) (s : List ℕ) → length s ≡ n → sized n s ≡ s
 sized-own n s e = ap (sized n) (sym (append-nil s)) ∙ sized-append n s [] e
+
+-- a part to the end
+pub part-rest : (s : List ℕ) (i : ℕ) → take (length s - i) (drop i s) ≡ drop i s
+part-rest s i = take-all (length s - i) (drop i s) (omega (arith, length-drop i s))
 
 pub put-fits : (d s : List ℕ) (i : ℕ) → i + length s ≤ length d → put d i s ≡ take i d ++ s ++ drop (i + length s) d
 unfolding put pasted

@@ -1,0 +1,5 @@
+pub mod Tables
+pub mod Bits
+pub mod Des
+pub mod Keys
+pub mod Rows
