@@ -122,8 +122,11 @@ told-2 {A} f a b x r e h = h ∙ sym (ap (λ (z : A). f z x) e)
 pub told-3 : {A B C D : Type 0} (f : A → B → C → D) (a b : A) (x : B) (y : C) (r : D) → a ≡ b → r ≡ f b x y → r ≡ f a x y
 told-3 {A} f a b x y r e h = h ∙ sym (ap (λ (z : A). f z x y) e)
 
-pub told-5 : {A B C D E F : Type 0} (f : A → B → C → D → E → F) (a b : A) (x : B) (y : C) (z : D) (w : E) (r : F) → a ≡ b → r ≡ f b x y z w → r ≡ f a x y z w
-told-5 {A} f a b x y z w r e h = h ∙ sym (ap (λ (v : A). f v x y z w) e)
+pub told-4 : {A B C D E : Type 0} (f : A → B → C → D → E) (a b : A) (x : B) (y : C) (z : D) (r : E) → a ≡ b → r ≡ f b x y z → r ≡ f a x y z
+told-4 {A} f a b x y z r e h = h ∙ sym (ap (λ (w : A). f w x y z) e)
+
+pub told-5 : {A B C D E F : Type 0} (f : A → B → C → D → E → F) (a b : A) (x : B) (y : C) (z : D) (u : E) (r : F) → a ≡ b → r ≡ f b x y z u → r ≡ f a x y z u
+told-5 {A} f a b x y z u r e h = h ∙ sym (ap (λ (w : A). f w x y z u) e)
 
 pub ruleset tests = (pick-true, pick-false, lt-ltb, le-ltb, le-leb, lt-leb, eq-eqb, ne-eqb)
 
