@@ -13,7 +13,7 @@ use borrow.Author.Tests.{ltb-true}
 use Rattle.octets.specs.Lists.{turns}
 use Rattle.octets.proofs.Loops.{Turned, turn-done, turning}
 use Rattle.octets.proofs.Tables.{below, first-of, second-of, at-each}
-use Rattle.digest.specs.Md4.{places, shifts, operation, operations, round}
+use Rattle.digest.specs.Md4.{places, shifts, operation, round}
 use Rattle.digest.specs.declared.md4_rounds.Buffer.{Buffer}
 use Rattle.digest.specs.declared.md4_rounds.Round.{Round}
 use Rattle.digest.specs.declared.md4_rounds.Round.the-variants.{First, Second, Third}
@@ -54,8 +54,9 @@ pub shift-less : (n : Round) (ss : List ℕ) (t : ℕ) → ss ≡ shifts n → g
 unfolding turning-by
 shift-less n ss t e = rw e (ltb-true _ _ (second-of (ltb 0 (getD (shifts n) (t % 4) 0)) _ (at-each 4 (turning-by n) (all-turn n) (t % 4) (omega arith))))
 
+-- a round with the tables in hand
 pub round-done : (n : Round) (ks ss block : List ℕ) (r q : Buffer) (t : ℕ) → Turned 16 (λ k. operation n (getD ss (k % 4) 0)) (λ k. getD block (getD ks k 0) 0) r q t → 16 ≤ t → ks ≡ places n → ss ≡ shifts n → q ≡ round n block r
-unfolding operations
-round-done n ks ss block r q t p h e f = turn-done p h ∙ (λ i. operations n (e i) (f i) block r)
+unfolding round
+round-done n ks ss block r q t p h e f = turn-done p h ∙ (λ i. turns (λ k. operation n (getD (f i) (k % 4) 0)) (λ k. getD block (getD (e i) k 0) 0) r 16)
 
 pub ruleset md4-loops = (turning, place-inside, place-fits, shift-some, shift-less, round-done)

@@ -1,7 +1,7 @@
 -- The padded message, octet by octet; its words inside the message; its blocks, one after the other.
-use Prim.Native.Nat.{ℕ, zero, suc, _+_, _-_, _*_, _/_, _≤_, _<_}
+use Prim.Native.Nat.{ℕ, zero, suc, _+_, _-_, _*_, _≤_, _<_}
 use mathlib.Core.Path.{_≡_, refl, sym, ap, _∙_}
-use mathlib.Core.List.{List, [], _∷_, _++_}
+use mathlib.Core.List.{List, _∷_, _++_}
 use native.Mathlib.Omega.{arith}
 use lib.ListN.{length, getD, replicate, length-append, length-replicate, List·getD-append}
 use lib.Seq.{getD-append-add, getD-append-seam}
@@ -24,10 +24,12 @@ pub length-padded : (o : Order) (m : List ℕ) → length (padded o m) ≡ block
 unfolding padded front
 length-padded o m = length-append (front m) (cells 8 (octetOf o 8 (length m * 8))) ∙ omega (arith, length-front m, length-cells 8 (octetOf o 8 (length m * 8)))
 
+-- up to the length
 in-front : (o : Order) (m : List ℕ) (k : ℕ) → k < blockCount (length m) * 64 - 8 → getD (padded o m) k 0 ≡ getD (front m) k 0
 unfolding padded front
 in-front o m k h = List·getD-append (front m) _ 0 k (omega (arith, length-front m))
 
+-- ---- octet k: of the message, the octet 128, a zero, an octet of the length
 pub padded-message : (o : Order) (m : List ℕ) (k : ℕ) → k < length m → getD m k 0 ≡ getD (padded o m) k 0
 unfolding front
 padded-message o m k h = sym (in-front o m k (omega arith) ∙ List·getD-append m _ 0 k h)
@@ -54,7 +56,7 @@ padded-length o m k b x p h l e =
     let i : k ≡ length (front m) + j = omega (arith, length-front m) in
     e ∙ sym (ap (λ (n : ℕ). getD (padded o m) n 0) i ∙ getD-append-add (front m) _ j 0 ∙ getD-cells 8 (octetOf o 8 (length m * 8)) j (omega arith))
 
--- a word of which the message has all four octets
+-- ---- a word of which the message has all four octets
 pub inner : (o : Order) (m : List ℕ) (k w : ℕ) → k + 4 ≤ length m → w ≡ wordOf o (getD m k 0) (getD m (k + 1) 0) (getD m (k + 2) 0) (getD m (k + 3) 0) → w ≡ wordAt o (padded o m) k
 unfolding wordAt
 inner o m k w h e =
@@ -66,7 +68,7 @@ inner o m k w h e =
 
 pub ruleset padding = (padded-message, padded-one, padded-zero, padded-length, inner)
 
--- every block was taken in
+-- ---- every block was taken in
 pub chain-done : {S : Type 0} (f : List ℕ → S → S) (o : Order) (m : List ℕ) (s q : S) (n i : ℕ) → Turned n (λ k. f) (blockAt o m) s q i → n ≤ i → n ≡ blockCount (length m) → q ≡ chained f o m s
 unfolding chained
 chain-done f o m s q n i p h e = turn-done p h ∙ ap (turns (λ k. f) (blockAt o m) s) e

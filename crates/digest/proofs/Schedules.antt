@@ -1,4 +1,4 @@
--- The schedule of SHA-1: its first words, sixteen more, and all eighty; its rounds in two parts.
+-- The schedule of SHA-1: the block's words, sixteen more, all eighty. The rounds, one part after the other.
 use Prim.Native.Nat.{ℕ, zero, suc, _+_, _-_, _≤_, _<_}
 use mathlib.Core.Path.{_≡_, refl, sym, ap, _∙_}
 use mathlib.Core.List.{List, [], _∷_, _++_}
@@ -21,16 +21,16 @@ first-done n t block w p h l e =
     ap (λ (k : ℕ). take k w) (sym i) ∙ p .front ∙ ap (λ (k : ℕ). cells k (λ j. getD block j 0)) i ∙ sized-own 16 block e
 
 -- j of sixteen words were added to the first t of v
-pub record Extended (v : List ℕ) (t : ℕ) (w : List ℕ) (j : ℕ) : Type 0 where
+pub record Grown (v : List ℕ) (t : ℕ) (w : List ℕ) (j : ℕ) : Type 0 where
   pub from : 16 ≤ t
   pub room : t + 16 ≤ length v
   pub long : length w ≡ length v
   pub most : j ≤ 16
   pub is : take (t + j) w ≡ extended (take t v) j
 
-pub extend-none : {v : List ℕ} {t : ℕ} → 16 ≤ t → t + 16 ≤ length v → Extended v t v 0
+pub grow-none : {v : List ℕ} {t : ℕ} → 16 ≤ t → t + 16 ≤ length v → Grown v t v 0
 unfolding extended
-extend-none {v} {t} h k = record { from = h; room = k; long = refl; most = omega arith; is = ap (λ (i : ℕ). take i v) (add-zero t) }
+grow-none {v} {t} h k = record { from = h; room = k; long = refl; most = omega arith; is = ap (λ (i : ℕ). take i v) (add-zero t) }
 
 next-taken : (w : List ℕ) (k : ℕ) → 16 ≤ k → nextWord w k ≡ nextWord (take k w) k
 unfolding nextWord
@@ -39,11 +39,11 @@ next-taken w k h =
     let b : k - 8 < k = omega arith in
     let c : k - 14 < k = omega arith in
     let d : k - 16 < k = omega arith in
-    simp (getD-take)
+    simp getD-take
 
-pub extend-more : {v : List ℕ} {t : ℕ} {w : List ℕ} {j x : ℕ} → Extended v t w j → j < 16 → x ≡ nextWord w (t + j) → Extended v t (set w (t + j) x) (j + 1)
+pub grow-more : {v : List ℕ} {t : ℕ} {w : List ℕ} {j x : ℕ} → Grown v t w j → j < 16 → x ≡ nextWord w (t + j) → Grown v t (set w (t + j) x) (j + 1)
 unfolding extended
-extend-more {v} {t} {w} {j} {x} p h e =
+grow-more {v} {t} {w} {j} {x} p h e =
     let l : t + j < length w = omega arith in
     let g : 16 ≤ t + j = omega arith in
     let n : length (take t v) ≡ t = length-take-le t v (omega arith) in
@@ -56,11 +56,12 @@ extend-more {v} {t} {w} {j} {x} p h e =
       is = rw (add-one, add-suc) (take-suc-set w (t + j) x l ∙ (λ i. p .is i ++ (y i ∷ [])));
     }
 
-pub extend-done : {v : List ℕ} {t : ℕ} {w : List ℕ} {j : ℕ} → Extended v t w j → 16 ≤ j → take (t + 16) w ≡ extended (take t v) 16
-extend-done {v} {t} {w} {j} p h =
+pub grow-done : {v : List ℕ} {t : ℕ} {w : List ℕ} {j : ℕ} → Grown v t w j → 16 ≤ j → take (t + 16) w ≡ extended (take t v) 16
+grow-done {v} {t} {w} {j} p h =
     let e : j ≡ 16 = omega arith in
     rw e at (p .is)
 
+-- m words more and n words more are m + n words more
 length-extended : (w : List ℕ) (n : ℕ) → length (extended w n) ≡ length w + n
 unfolding extended
 length-extended w zero = sym (add-zero (length w))
@@ -79,7 +80,7 @@ schedule-done block w1 w2 w3 w4 w5 p q r s t e =
     let more : (w v : List ℕ) (n : ℕ) → v ≡ extended w n → extended v 16 ≡ extended w (n + 16) = λ w v n h. ap (λ (l : List ℕ). extended l 16) h ∙ extended-more w n 16 in
     sym (take-all 80 w5 (omega arith)) ∙ t ∙ more block _ 48 (s ∙ more block _ 32 (r ∙ more block _ 16 (q ∙ ap (λ (l : List ℕ). extended l 16) p)))
 
--- n rounds after m rounds
+-- n rounds after m rounds are m + n rounds
 pub rounds-more : (t m n : ℕ) (w : List ℕ) (r : Buffer) → rounds (t + m) n w (rounds t m w r) ≡ rounds t (m + n) w r
 unfolding rounds turns
 rounds-more t m zero w r = ap (λ (k : ℕ). rounds t k w r) (sym (add-zero m))
@@ -87,8 +88,8 @@ rounds-more t m (suc n) w r =
     let e = add-assoc t m n in
     rw add-suc (λ i. round (e i) (getD w (e i) 0) (rounds-more t m n w r i))
 
-pub rounds-done : (w : List ℕ) (r q1 q2 q3 q4 : Buffer) → q1 ≡ rounds 0 20 w r → q2 ≡ rounds 20 20 w q1 → q3 ≡ rounds 40 20 w q2 → q4 ≡ rounds 60 20 w q3 → q4 ≡ rounds 0 80 w r
-rounds-done w r q1 q2 q3 q4 a b c d =
-    d ∙ ap (rounds 60 20 w) (c ∙ ap (rounds 40 20 w) (b ∙ ap (rounds 20 20 w) a ∙ rounds-more 0 20 20 w r) ∙ rounds-more 0 40 20 w r) ∙ rounds-more 0 60 20 w r
+pub rounds-done : (block w : List ℕ) (r q1 q2 q3 q4 : Buffer) → w ≡ schedule block → q1 ≡ rounds 0 20 w r → q2 ≡ rounds 20 20 w q1 → q3 ≡ rounds 40 20 w q2 → q4 ≡ rounds 60 20 w q3 → q4 ≡ rounds 0 80 (schedule block) r
+rounds-done block w r q1 q2 q3 q4 e a b c d =
+    d ∙ ap (rounds 60 20 w) (c ∙ ap (rounds 40 20 w) (b ∙ ap (rounds 20 20 w) a ∙ rounds-more 0 20 20 w r) ∙ rounds-more 0 40 20 w r) ∙ rounds-more 0 60 20 w r ∙ ap (λ (l : List ℕ). rounds 0 80 l r) e
 
-pub ruleset sha1-loops = (filling, turning, first-done, extend-none, extend-more, extend-done)
+pub ruleset sha1-loops = (filling, turning, first-done, grow-none, grow-more, grow-done)

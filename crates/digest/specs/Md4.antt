@@ -20,7 +20,7 @@ abbrev pub initial : Buffer
 initial = record { a = 0x67452301; b = 0xEFCDAB89; c = 0x98BADCFE; d = 0x10325476 }
 
 -- ---- 3.4: the operations [abcd k s] of a round
--- the function and the constant
+-- the function, and the constant that is added; the first round adds none
 abbrev pub function : Round → ℕ → ℕ → ℕ → ℕ
 function First x y z = choose x y z
 function Second x y z = majority x y z
@@ -53,12 +53,9 @@ operation n s x r =
       d = r .c;
     }
 
--- sixteen operations with the words at ks and the shifts ss
-unfoldable pub operations : Round → List ℕ → List ℕ → List ℕ → Buffer → Buffer
-operations n ks ss block r = turns (λ t. operation n (getD ss (t % 4) 0)) (λ t. getD block (getD ks t 0) 0) r 16
-
-abbrev pub round : Round → List ℕ → Buffer → Buffer
-round n block r = operations n (places n) (shifts n) block r
+-- the sixteen operations of a round
+unfoldable pub round : Round → List ℕ → Buffer → Buffer
+round n block r = turns (λ t. operation n (getD (shifts n) (t % 4) 0)) (λ t. getD block (getD (places n) t 0) 0) r 16
 
 abbrev pub sum : Buffer → Buffer → Buffer
 sum r s = record { a = plus (r .a) (s .a); b = plus (r .b) (s .b); c = plus (r .c) (s .c); d = plus (r .d) (s .d) }

@@ -60,8 +60,14 @@ fn word_of(order: Order, a: u8, b: u8, c: u8, d: u8) -> u32
     ensures { λ r. ⌜ r ≡ wordOf order a b c d ⌝ }
 {
     match order {
-        Order::Little => (((d as u32) * 256 + (c as u32)) * 256 + (b as u32)) * 256 + (a as u32),
-        Order::Big => (((a as u32) * 256 + (b as u32)) * 256 + (c as u32)) * 256 + (d as u32),
+        Order::Little => (a as u32)
+            + (b as u32) * 0x100
+            + (c as u32) * 0x10000
+            + (d as u32) * 0x1000000,
+        Order::Big => (a as u32) * 0x1000000
+            + (b as u32) * 0x10000
+            + (c as u32) * 0x100
+            + (d as u32),
     }
 }
 
@@ -92,16 +98,16 @@ fn padded_at(order: Order, m: &[u8], k: usize) -> u8
     octet_of(order, 8, (n * 8) as u64, k - start)
 }
 
-// The word of the padded message at its octet k, where the message has the four octets.
-fn inner_word(order: Order, m: &[u8], k: usize) -> u32
+// The word at octet k of the padded message, where the message has its four octets.
+fn message_word(order: Order, m: &[u8], k: usize) -> u32
     requires { ⌜ k + 4 ≤ length (now m) ⌝ }
     ensures { λ r. ⌜ r ≡ wordAt order (padded order (now (m .entry))) k ⌝ }
 {
     word_of(order, m[k], m[k + 1], m[k + 2], m[k + 3])
 }
 
-// The word of the padded message at its octet k.
-fn outer_word(order: Order, m: &[u8], k: usize) -> u32
+// The word at octet k of the padded message.
+fn padded_word(order: Order, m: &[u8], k: usize) -> u32
     requires { ⌜ (length (now m) ≤ 65536) × (k + 4 ≤ blockCount (length (now m)) * 64) ⌝ }
     ensures { λ r. ⌜ r ≡ wordAt order (padded order (now (m .entry))) k ⌝ }
 {
@@ -112,30 +118,30 @@ fn outer_word(order: Order, m: &[u8], k: usize) -> u32
     word_of(order, a, b, c, d)
 }
 
-// Block i, all of it in the message.
-fn inner_block(order: Order, m: &[u8], i: usize) -> [u32; 16]
+// Block i, where the message has all of it.
+fn message_block(order: Order, m: &[u8], i: usize) -> [u32; 16]
     requires { ⌜ (i + 1) * 64 ≤ length (now m) ⌝ }
     ensures { λ r. ⌜ r ≡ blockAt order (now (m .entry)) i ⌝ }
 {
     let mut b = [0u32; 16];
     let mut j = 0;
     while j < 16 {
-        let w = inner_word(order, m, i * 64 + j * 4);
+        let w = message_word(order, m, i * 64 + j * 4);
         b[j] = w;
         j += 1;
     }
     b
 }
 
-// Block i, some or all of it padding.
-fn outer_block(order: Order, m: &[u8], i: usize) -> [u32; 16]
+// Block i, whatever of it is padding.
+fn padded_block(order: Order, m: &[u8], i: usize) -> [u32; 16]
     requires { ⌜ (length (now m) ≤ 65536) × (i < blockCount (length (now m))) ⌝ }
     ensures { λ r. ⌜ r ≡ blockAt order (now (m .entry)) i ⌝ }
 {
     let mut b = [0u32; 16];
     let mut j = 0;
     while j < 16 {
-        let w = outer_word(order, m, i * 64 + j * 4);
+        let w = padded_word(order, m, i * 64 + j * 4);
         b[j] = w;
         j += 1;
     }
@@ -148,7 +154,7 @@ pub(crate) fn block_at(order: Order, m: &[u8], i: usize) -> [u32; 16]
     ensures { λ r. ⌜ r ≡ blockAt order (now (m .entry)) i ⌝ }
 {
     if i < m.len() / 64 {
-        return inner_block(order, m, i);
+        return message_block(order, m, i);
     }
-    outer_block(order, m, i)
+    padded_block(order, m, i)
 }

@@ -10,7 +10,7 @@ use super::words::rotl;
 use octets::Order;
 ghost use mathlib.Core.Path.{_≡_};
 ghost use Prim.Native.Nat.{_+_, _≤_, _<_};
-ghost use lib.ListN.{length, getD, take};
+ghost use lib.ListN.{length, take};
 ghost use Rattle.octets.specs.declared.Order.the-variants.{Big};
 ghost use Rattle.digest.specs.Blocks.{chained};
 ghost use Rattle.digest.specs.Sha1.{function, constant, nextWord, extended, schedule, round, rounds, compressed, initial, output, sha1Of};
@@ -69,31 +69,6 @@ fn round_of(t: usize, w: u32, r: Buffer) -> Buffer
     }
 }
 
-// Twenty rounds over the schedule w, from round t on.
-fn twenty(t: usize, w: &[u32; 80], r: Buffer) -> Buffer
-    requires { ⌜ t + 20 ≤ 80 ⌝ }
-    ensures { λ q. ⌜ q ≡ rounds t 20 (now (w .entry)) r ⌝ }
-{
-    let mut q = r;
-    let mut k = 0;
-    while k < 20 {
-        let x = w[t + k];
-        q = round_of(t + k, x, q);
-        k += 1;
-    }
-    q
-}
-
-// The eighty rounds. Each twenty have one function and one constant.
-fn rounds_of(w: &[u32; 80], r: Buffer) -> Buffer
-    ensures { λ q. ⌜ q ≡ rounds 0 80 (now (w .entry)) r ⌝ }
-{
-    let one = twenty(0, w, r);
-    let two = twenty(20, w, one);
-    let three = twenty(40, w, two);
-    twenty(60, w, three)
-}
-
 // The block's words, and room for those to come.
 fn first_words(block: [u32; 16]) -> [u32; 80]
     ensures { λ r. ⌜ take 16 r ≡ block ⌝ }
@@ -107,6 +82,14 @@ fn first_words(block: [u32; 16]) -> [u32; 80]
     w
 }
 
+// W(t) from the words before it.
+fn next_word(w: &[u32], t: usize) -> u32
+    requires { ⌜ (16 ≤ t) × (t ≤ length (now w)) ⌝ }
+    ensures { λ r. ⌜ r ≡ nextWord (now (w .entry)) t ⌝ }
+{
+    rotl(w[t - 3] ^ w[t - 8] ^ w[t - 14] ^ w[t - 16], 1)
+}
+
 // Sixteen words more, after the first t.
 fn extend(w: &mut [u32], t: usize)
     requires { ⌜ (16 ≤ t) × (t + 16 ≤ length (now w)) ⌝ }
@@ -114,9 +97,8 @@ fn extend(w: &mut [u32], t: usize)
 {
     let mut j = 0;
     while j < 16 {
-        let k = t + j;
-        let x = rotl(w[k - 3] ^ w[k - 8] ^ w[k - 14] ^ w[k - 16], 1);
-        w[k] = x;
+        let x = next_word(w, t + j);
+        w[t + j] = x;
         j += 1;
     }
 }
@@ -133,12 +115,37 @@ fn schedule_of(block: [u32; 16]) -> [u32; 80]
     w
 }
 
+// Twenty rounds over the schedule w, from round t on.
+fn twenty_rounds(t: usize, w: &[u32; 80], r: Buffer) -> Buffer
+    requires { ⌜ t + 20 ≤ 80 ⌝ }
+    ensures { λ q. ⌜ q ≡ rounds t 20 (now (w .entry)) r ⌝ }
+{
+    let mut q = r;
+    let mut k = 0;
+    while k < 20 {
+        let x = w[t + k];
+        q = round_of(t + k, x, q);
+        k += 1;
+    }
+    q
+}
+
+// The eighty rounds over the block's schedule. Each twenty have one function and one constant.
+fn rounds_of(block: [u32; 16], r: Buffer) -> Buffer
+    ensures { λ q. ⌜ q ≡ rounds 0 80 (schedule block) r ⌝ }
+{
+    let w = schedule_of(block);
+    let one = twenty_rounds(0, &w, r);
+    let two = twenty_rounds(20, &w, one);
+    let three = twenty_rounds(40, &w, two);
+    twenty_rounds(60, &w, three)
+}
+
 // The buffer after one block more.
 fn compress(block: [u32; 16], r: Buffer) -> Buffer
     ensures { λ q. ⌜ q ≡ compressed block r ⌝ }
 {
-    let w = schedule_of(block);
-    let q = rounds_of(&w, r);
+    let q = rounds_of(block, r);
     Buffer {
         a: add(r.a, q.a),
         b: add(r.b, q.b),

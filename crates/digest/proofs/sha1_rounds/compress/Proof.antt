@@ -1,5 +1,5 @@
-use Rattle.digest.specs.Sha1.{compressed}
 use borrow.Author.Needs.{needs}
+use Rattle.digest.specs.Sha1.{compressed}
 use Rattle.digest.proofs.sha1_rounds.compress.Statement.{statement}
 use Rattle.digest.proofs.sha1_rounds.compress.Tie as tie
 
@@ -8,7 +8,6 @@ unfolding compressed
 compress-spec =
     tie.close
     (tie.spec
-    (λ c κs. search needs)
     (λ c κs. search needs)
     (λ c κs. search needs)
     (λ c κs. search needs)

@@ -1,31 +1,18 @@
 use Prim.Native.Nat.{_-_}
-use Rattle.digest.specs.Sha1.{nextWord}
-use Rattle.digest.proofs.Schedules.{Extended, sha1-loops}
+use Rattle.digest.proofs.Schedules.{Grown, sha1-loops}
 use Rattle.digest.proofs.sha1_rounds.extend.Statement.{statement}
 use Rattle.digest.proofs.sha1_rounds.extend.Tie as tie
 
 pub extend-spec : {M : Type 1} → statement M
-unfolding nextWord
 extend-spec =
     tie.close
     (tie.spec
-    (λ w₀ t _ w j. Extended w₀ t w j)
+    (λ w₀ t _ w j. Grown w₀ t w j)
     (λ _ _ _ _ j. 16 - j)
     (λ c. search sha1-loops)
     (λ c. search sha1-loops)
-    (λ c. search sha1-loops)
-    (λ c. search sha1-loops)
-    (λ c. search sha1-loops)
-    (λ c. search sha1-loops)
-    (λ c. search sha1-loops)
-    (λ c. search sha1-loops)
-    (λ c. search sha1-loops)
-    (λ c. search sha1-loops)
-    (λ c. search sha1-loops)
-    (λ c. search sha1-loops)
-    (λ c. search sha1-loops)
-    (λ c. search sha1-loops)
     (λ c κs. search sha1-loops)
+    (λ c. search sha1-loops)
     (λ c. search sha1-loops)
     (λ c. search sha1-loops)
     (λ c. search sha1-loops)

@@ -1,5 +1,5 @@
-use Rattle.digest.proofs.Schedules.{rounds-done}
 use borrow.Author.Needs.{needs}
+use Rattle.digest.proofs.Schedules.{rounds-done}
 use Rattle.digest.proofs.sha1_rounds.rounds_of.Statement.{statement}
 use Rattle.digest.proofs.sha1_rounds.rounds_of.Tie as tie
 
@@ -7,6 +7,7 @@ pub rounds-of-spec : {M : Type 1} → statement M
 rounds-of-spec =
     tie.close
     (tie.spec
+    (λ c κs. search needs)
     (λ c κs. search needs)
     (λ c κs. search needs)
     (λ c κs. search needs)

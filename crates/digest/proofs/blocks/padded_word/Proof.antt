@@ -1,11 +1,11 @@
 use Rattle.digest.specs.Blocks.{wordAt}
 use borrow.Author.Needs.{needs}
-use Rattle.digest.proofs.blocks.outer_word.Statement.{statement}
-use Rattle.digest.proofs.blocks.outer_word.Tie as tie
+use Rattle.digest.proofs.blocks.padded_word.Statement.{statement}
+use Rattle.digest.proofs.blocks.padded_word.Tie as tie
 
-pub outer-word-spec : {M : Type 1} → statement M
+pub padded-word-spec : {M : Type 1} → statement M
 unfolding wordAt
-outer-word-spec =
+padded-word-spec =
     tie.close
     (tie.spec
     (λ c κs. search needs)

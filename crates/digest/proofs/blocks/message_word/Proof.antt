@@ -1,10 +1,10 @@
 use Rattle.digest.proofs.Padding.{inner}
 use borrow.Author.Needs.{needs}
-use Rattle.digest.proofs.blocks.inner_word.Statement.{statement}
-use Rattle.digest.proofs.blocks.inner_word.Tie as tie
+use Rattle.digest.proofs.blocks.message_word.Statement.{statement}
+use Rattle.digest.proofs.blocks.message_word.Tie as tie
 
-pub inner-word-spec : {M : Type 1} → statement M
-inner-word-spec =
+pub message-word-spec : {M : Type 1} → statement M
+message-word-spec =
     tie.close
     (tie.spec
     (λ c. search needs)
