@@ -5,3 +5,4 @@ pub mod Scans
 pub mod Parts
 pub mod Decimals
 pub mod Tables
+pub mod Appends

@@ -1,5 +1,6 @@
 -- Lists by their elements, and lists of octets put into others.
 use Prim.Native.Nat.{ℕ, zero, suc, _+_}
+use mathlib.Core.Path.{_≡_}
 use mathlib.Core.List.{List, [], _∷_, _++_}
 use lib.ListN.{length, getD, take, drop}
 use lib.Dec.{leb}
@@ -29,6 +30,15 @@ pasted d i s = take i d ++ s ++ drop (i + length s) d
 -- the same where s fits there, and else d
 unfoldable pub put : List ℕ → ℕ → List ℕ → List ℕ
 put d i s = pick (leb (i + length s) (length d)) (pasted d i s) d
+
+-- the place after s, put into d from i; i where s does not fit
+unfoldable pub nextAt : List ℕ → ℕ → List ℕ → ℕ
+nextAt d i s = pick (leb (i + length s) (length d)) (i + length s) i
+
+-- s was put into d from i; next is the place after it
+pub record Appended (d : List ℕ) (i : ℕ) (s : List ℕ) (next : ℕ) (after : List ℕ) : Type 0 where
+  pub place : next ≡ nextAt d i s
+  pub now : after ≡ put d i s
 
 -- s after n turns, turn t by f t of what x has at t
 unfoldable pub turns : {A B : Type 0} → (ℕ → B → A → A) → (ℕ → B) → A → ℕ → A

@@ -3,7 +3,7 @@ ghost use mathlib.Core.Path.{_≡_};
 ghost use mathlib.Core.List.{List};
 ghost use Prim.Native.Nat.{_<_, _≤_};
 ghost use lib.ListN.{length, getD, take, drop};
-ghost use Rattle.octets.specs.Lists.{cells, sized, put};
+ghost use Rattle.octets.specs.Lists.{cells, sized, put, Appended};
 ghost use Rattle.octets.specs.Octets.{octetIs, standsAt, same, differs, pairOf, numberAt, isHex, allHex, hexStands, hexValue, hexDigit, hexAt, unhexAt, isDigit, digits, digitValue, number, decimal, DigitsFrom};
 
 // The order of a number's octets: the low one first, or the high one first.
@@ -79,6 +79,20 @@ pub fn put_at(dst: &mut [u8], i: usize, src: &[u8])
         dst[i + j] = src[j];
         j += 1;
     }
+}
+
+// Copies src into dst from i, and gives the place after it; where it does not fit, dst stays as it is and i comes back.
+pub fn append(dst: &mut [u8], i: usize, src: &[u8]) -> usize
+    ensures { λ r. ⌜ Appended (now (dst .entry)) i (now (src .entry)) r (now (dst .exit)) ⌝ }
+{
+    if dst.len() < src.len() {
+        return i;
+    }
+    if dst.len() - src.len() < i {
+        return i;
+    }
+    put_at(dst, i, src);
+    i + src.len()
 }
 
 // 1 where two octets differ, and else 0.
@@ -250,6 +264,21 @@ pub fn to_hex(dst: &mut [u8], src: &[u8])
     }
 }
 
+// Appends the first n hex digits of src.
+pub fn append_hex(dst: &mut [u8], i: usize, n: usize, src: &[u8]) -> usize
+    ensures { λ r. ⌜ Appended (now (dst .entry)) i (cells n (hexAt (now (src .entry)))) r (now (dst .exit)) ⌝ }
+{
+    if dst.len() < n {
+        return i;
+    }
+    if dst.len() - n < i {
+        return i;
+    }
+    let end = i + n;
+    to_hex(&mut dst[i..end], src);
+    end
+}
+
 // Octet k of the digits d; a digit past the end counts as 0.
 pub fn unhex_at(d: &[u8], k: usize) -> u8
     ensures { λ r. ⌜ r ≡ unhexAt (now (d .entry)) k ⌝ }
@@ -352,19 +381,19 @@ fn decimal_of(n: u64) -> Decimal
 
 // How many digits a number has in decimal.
 pub fn decimal_len(n: u64) -> usize
-    ensures { λ r. ⌜ r ≡ length (decimal n) ⌝ }
+    ensures { λ r. ⌜ (r ≡ length (decimal n)) × (r ≤ 10) ⌝ }
 {
     let d = decimal_of(n);
     let start = d.start;
     10 - start
 }
 
-// Puts a number's decimal digits into dst from i where they fit; else dst stays as it is.
-pub fn put_decimal(dst: &mut [u8], i: usize, n: u64)
-    ensures { λ r. ⌜ now (dst .exit) ≡ put (now (dst .entry)) i (decimal n) ⌝ }
+// Appends a number's decimal digits.
+pub fn append_decimal(dst: &mut [u8], i: usize, n: u64) -> usize
+    ensures { λ r. ⌜ Appended (now (dst .entry)) i (decimal n) r (now (dst .exit)) ⌝ }
 {
     let d = decimal_of(n);
     let digits = d.digits;
     let start = d.start;
-    put_at(dst, i, rest(&digits, start));
+    append(dst, i, rest(&digits, start))
 }
