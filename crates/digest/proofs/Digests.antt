@@ -4,6 +4,7 @@ use mathlib.Core.Path.{_≡_, ap, _∙_}
 use mathlib.Core.List.{List}
 use native.Mathlib.Omega.{arith}
 use lib.ListN.{length, getD}
+use lib.Dec.{T, leb, leb→le}
 use borrow.Author.Tests.{le-ltb}
 use Rattle.octets.specs.Lists.{cells}
 use Rattle.octets.specs.declared.Order.{Order}
@@ -52,8 +53,14 @@ pub sha1-gives : (m : List ℕ) → length m ≤ 65536 → sha1Told m ≡ gives 
 unfolding sha1Told
 sha1-gives m h = pick-false _ _ _ (le-ltb _ _ h)
 
-pub md4-octets : (r : Md4Digest) (m : List ℕ) → toldMd4 r ≡ md4Told m → length m ≤ 65536 → r .octets ≡ md4Of m
-md4-octets r m e h = ap (λ (t : Told (List ℕ)). t .value) (e ∙ md4-gives m h)
+pub md4-octets : (r : Md4Digest) (l m : List ℕ) → toldMd4 r ≡ md4Told l → l ≡ m → length m ≤ 65536 → r .octets ≡ md4Of m
+md4-octets r l m e f h = ap (λ (t : Told (List ℕ)). t .value) (e ∙ ap md4Told f ∙ md4-gives m h)
 
-pub sha1-octets : (r : Sha1Digest) (m : List ℕ) → toldSha1 r ≡ sha1Told m → length m ≤ 65536 → r .octets ≡ sha1Of m
-sha1-octets r m e h = ap (λ (t : Told (List ℕ)). t .value) (e ∙ sha1-gives m h)
+pub sha1-octets : (r : Sha1Digest) (l m : List ℕ) → toldSha1 r ≡ sha1Told l → l ≡ m → length m ≤ 65536 → r .octets ≡ sha1Of m
+sha1-octets r l m e f h = ap (λ (t : Told (List ℕ)). t .value) (e ∙ ap sha1Told f ∙ sha1-gives m h)
+
+-- a message of a known length
+pub short : (m : List ℕ) (n : ℕ) → length m ≡ n → T (leb n 65536) → length m ≤ 65536
+short m n e t = rw e (leb→le n 65536 t)
+
+pub ruleset digests = (length-md4, length-sha1, md4-octets, sha1-octets, short)
