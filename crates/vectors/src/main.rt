@@ -2,6 +2,7 @@
 mod ciphers;
 mod digests;
 mod script;
+mod tables;
 
 // One line. A line that begins with none of the names is a comment.
 fn run_line(line: &[u8]) {
@@ -19,6 +20,14 @@ fn run_line(line: &[u8]) {
     }
     if script::named(line, b"parity") {
         ciphers::parity(line);
+        return;
+    }
+    if script::named(line, b"check") {
+        tables::check(line);
+        return;
+    }
+    if script::named(line, b"find") {
+        tables::find(line);
     }
 }
 

@@ -1,5 +1,5 @@
-// Cases in text: a line is a name and fields, parted by single spaces. A field is hex digits, hex digits and a count of
-// repeats after a star, or a single minus sign for no octets.
+// Cases in text: a line is a name and fields, parted by single spaces. A field is pieces, joined by plus signs: hex digits,
+// or hex digits and a count of repeats after a star. A minus sign stands for no octets.
 ghost use Prim.Native.Nat.{_≤_};
 ghost use lib.ListN.{length};
 use answer::Answer;
@@ -88,16 +88,38 @@ fn decode(digits: &[u8], repeats: usize, dst: &mut [u8]) -> usize
     n
 }
 
+// A piece of a field at the front of dst; how many octets.
+fn piece(text: &[u8], dst: &mut [u8]) -> usize
+    ensures { λ r. ⌜ r ≤ length (now (dst .exit)) ⌝ }
+{
+    let repeats = repeats_of(text);
+    let star = find(text, 0, b'*');
+    decode(&text[0..star], repeats, dst)
+}
+
+// The pieces of a field, one after the other at the front of dst; how many octets.
+fn pieces(text: &[u8], dst: &mut [u8]) -> usize
+    ensures { λ r. ⌜ r ≤ length (now (dst .exit)) ⌝ }
+{
+    let size = dst.len();
+    let mut n = 0;
+    let mut at = 0;
+    while at < text.len() {
+        let end = find(text, at, b'+');
+        let got = piece(&text[at..end], &mut dst[n..size]);
+        n = n + got;
+        at = end + 1;
+    }
+    n
+}
+
 // Field k of a line as octets at the front of dst; how many.
 pub fn field(line: &[u8], k: usize, dst: &mut [u8]) -> usize
     ensures { λ r. ⌜ r ≤ length (now (dst .exit)) ⌝ }
 {
     let start = field_start(line, k);
     let end = find(line, start, b' ');
-    let text = &line[start..end];
-    let repeats = repeats_of(text);
-    let star = find(text, 0, b'*');
-    decode(&text[0..star], repeats, dst)
+    pieces(&line[start..end], dst)
 }
 
 // Whether a line's name is this one.
@@ -106,7 +128,7 @@ pub fn named(line: &[u8], name: &[u8]) -> bool {
     octets::equal(&line[0..end], name)
 }
 
-// Writes a line: the case's name, the answer's number, and octets in hex.
+// Writes a line: the case's name, the answer's number, and octets in hex, or a minus sign for none.
 pub fn tell(name: &[u8], answer: Answer, value: &[u8]) {
     let mut text = [0u8; 2048];
     let n = least(value.len(), 1024);
@@ -114,6 +136,10 @@ pub fn tell(name: &[u8], answer: Answer, value: &[u8]) {
     io::write_all(STDOUT_FILENO, name);
     io::write_all(STDOUT_FILENO, b" ");
     io::print_decimal(STDOUT_FILENO, answer::number(answer) as u64);
+    if n == 0 {
+        io::write_all(STDOUT_FILENO, b" -\n");
+        return;
+    }
     io::write_all(STDOUT_FILENO, b" ");
     io::write_all(STDOUT_FILENO, &text[0..n * 2]);
     io::write_all(STDOUT_FILENO, b"\n");
