@@ -6,8 +6,8 @@ use native.Mathlib.Omega.{arith}
 use mathlib.Core.Logic.{⊎-elim}
 use mathlib.Core.Path.{_≡_, refl, sym, ap, _∙_}
 use mathlib.Core.List.{List, [], _∷_, _++_, append-assoc, append-nil}
-use lib.ListN.{length, take, drop, getD, length-append, length-drop, drop-of-length-le, List·getD-append}
-use lib.Seq.{length-take-le, take-all, take-append-seam, drop-append-add, drop-drop, getD-at, ext-getD}
+use lib.ListN.{length, take, drop, getD, replicate, length-append, length-drop, drop-of-length-le, List·getD-append}
+use lib.Seq.{length-take-le, getD-take, take-append-seam, drop-append-add, drop-drop, getD-at, ext-getD}
 use borrow.Author.Tests.{le-leb}
 use Rattle.octets.specs.Choice.{pick}
 use Rattle.octets.specs.Lists.{cells, sized, over, pasted, put}
@@ -40,6 +40,22 @@ pub getD-sized : (n : ℕ) (s : List ℕ) (k : ℕ) → k < n → getD (sized n 
 unfolding sized
 getD-sized n s k h = getD-cells n (λ j. getD s j 0) k h
 
+pub sized-take : (n : ℕ) (s : List ℕ) → n ≤ length s → sized n s ≡ take n s
+sized-take n s h =
+    ext-getD 0 (sized n s) (take n s) (length-sized n s ∙ sym (length-take-le n s h))
+    (λ i l. let k : i < n = rw (length-sized n s) at l in getD-sized n s i k ∙ sym (getD-take n s i 0 k))
+
+-- zeros after s read as nothing does
+getD-replicated : (n k : ℕ) → _≡_ {A = ℕ} (getD (replicate n 0) k 0) 0
+getD-replicated zero k = refl
+getD-replicated (suc n) zero = refl
+getD-replicated (suc n) (suc k) = getD-replicated n k
+
+pub getD-zeros : (s : List ℕ) (n k : ℕ) → getD (s ++ replicate n 0) k 0 ≡ getD s k 0
+getD-zeros [] n k = getD-replicated n k
+getD-zeros (x ∷ s) n zero = refl
+getD-zeros (x ∷ s) n (suc k) = getD-zeros s n k
+
 -- a list of n octets, with whatever follows it
 pub sized-append : (n : ℕ) (s t : List ℕ) → length s ≡ n → sized n (s ++ t) ≡ s
 sized-append n s t e =
@@ -48,10 +64,6 @@ sized-append n s t e =
 
 pub sized-own : (n : ℕ) (s : List ℕ) → length s ≡ n → sized n s ≡ s
 sized-own n s e = ap (sized n) (sym (append-nil s)) ∙ sized-append n s [] e
-
--- a part to the end
-pub part-rest : (s : List ℕ) (i : ℕ) → take (length s - i) (drop i s) ≡ drop i s
-part-rest s i = take-all (length s - i) (drop i s) (omega (arith, length-drop i s))
 
 pub put-fits : (d s : List ℕ) (i : ℕ) → i + length s ≤ length d → put d i s ≡ take i d ++ s ++ drop (i + length s) d
 unfolding put pasted

@@ -43,6 +43,23 @@ pub fill-own : {n : ℕ} {l dst : List ℕ} {i : ℕ} → Filled n (λ k. getD l
 unfolding sized
 fill-own {n} {l} p h e = fill-done p h ∙ sized-own n l e
 
+-- ---- filling a front: i of the first n elements of dst, which has room for more, are f's
+pub record Fronted (room n : ℕ) (f : ℕ → ℕ) (dst : List ℕ) (i : ℕ) : Type 0 where
+  pub fits : n ≤ room
+  pub most : i ≤ n
+  pub filled : Filled room f dst i
+
+pub front-none : {room n : ℕ} {f : ℕ → ℕ} {dst : List ℕ} → length dst ≡ room → n ≤ room → Fronted room n f dst 0
+front-none e h = record { fits = h; most = omega arith; filled = fill-none e }
+
+pub front-more : {room n : ℕ} {f : ℕ → ℕ} {dst : List ℕ} {i a : ℕ} → Fronted room n f dst i → i < n → a ≡ f i → Fronted room n f (set dst i a) (i + 1)
+front-more p h e = record { fits = p .fits; most = omega arith; filled = fill-more (p .filled) (omega arith) e }
+
+pub front-done : {room n : ℕ} {f : ℕ → ℕ} {dst : List ℕ} {i : ℕ} → Fronted room n f dst i → n ≤ i → take n dst ≡ cells n f
+front-done {room} {n} {f} {dst} {i} p h =
+    let e : i ≡ n = omega arith in
+    rw e at (p .filled .front)
+
 -- ---- copying: j elements of s stand in dst from i; the rest is d's
 pub record Pasted (d : List ℕ) (i : ℕ) (s dst : List ℕ) (j : ℕ) : Type 0 where
   pub room : i + length s ≤ length d
@@ -115,6 +132,8 @@ pub left-done : {A : Type 0} {n : ℕ} {whole rest r : A} {i : ℕ} → Left n w
 left-done p e = sym (p .is ∙ e)
 
 pub ruleset filling = (needs, fill-none, fill-more, fill-done, paste-none, paste-more, paste-done, put-longer, put-past)
+
+pub ruleset fronting = (needs, fill-none, front-none, front-more, front-done)
 
 pub ruleset turning = (needs, turn-none, turn-more, turn-done)
 

@@ -1,4 +1,4 @@
-use Rattle.octets.proofs.Lists.{part-rest}
+use Rattle.octets.proofs.Parts.{rest-all}
 use Rattle.des.specs.Des.{roundOf}
 use borrow.Author.Needs.{needs}
 use Rattle.des.proofs.round.Statement.{statement}
@@ -17,4 +17,4 @@ round-spec =
     (λ c κs. search needs)
     (λ c. search needs)
     (λ c κs. search needs)
-    (λ c. cc (part-rest (c .before .before .before .before .before .before .before .before .args .lr .now) 32)))
+    (λ c. cc (rest-all (c .before .before .before .before .before .before .before .before .args .lr .now) 32)))

@@ -1,0 +1,4 @@
+pub mod Pieces
+pub mod Users
+pub mod Answers
+pub mod Responses

@@ -1,0 +1,91 @@
+-- What callers know of the arithmetic: the length of each result, and what is given for users of at most 256 octets.
+use Prim.Native.Nat.{ℕ, _≤_}
+use mathlib.Core.Path.{_≡_, refl, sym, ap, _∙_}
+use mathlib.Core.List.{List, _++_}
+use native.Mathlib.Omega.{arith}
+use lib.ListN.{length}
+use lib.Seq.{length-take-le}
+use Rattle.octets.proofs.Lists.{length-cells}
+use Rattle.answer.specs.Outcome.{Told, gives}
+use Rattle.digest.specs.Sha1.{sha1Of}
+use Rattle.digest.proofs.Digests.{length-md4, length-sha1}
+use Rattle.mschap.specs.Users.{userStart, userOf}
+use Rattle.mschap.specs.Responses.{passwordHash, challengeHash, blockOf, ntResponse, magic, padding, authenticatorOf, digitsOf}
+use Rattle.mschap.specs.Answers.{Place, passwordHashTold, userTold, challengeHashTold, ntResponseTold, authenticatorTold, toldPasswordHash, toldUser, toldChallengeHash, toldNtResponse, toldAuthenticator}
+use Rattle.mschap.specs.declared.PasswordHash.{PasswordHash}
+use Rattle.mschap.specs.declared.User.{User}
+use Rattle.mschap.specs.declared.ChallengeHash.{ChallengeHash}
+use Rattle.mschap.specs.declared.NtResponse.{NtResponse}
+use Rattle.mschap.specs.declared.Authenticator.{Authenticator}
+use Rattle.mschap.proofs.Answers.{given}
+use Rattle.mschap.proofs.Pieces.{length-three, length-block}
+
+-- ---- lengths
+pub length-password-hash : (units : List ℕ) → length (passwordHash units) ≡ 16
+unfolding passwordHash
+length-password-hash units = length-md4 _
+
+pub length-challenge-hash : (peer authenticator user : List ℕ) → length (challengeHash peer authenticator user) ≡ 8
+unfolding challengeHash
+length-challenge-hash peer authenticator user = length-take-le 8 (sha1Of (peer ++ authenticator ++ user)) (omega (arith, length-sha1 (peer ++ authenticator ++ user)))
+
+pub length-nt-response : (authenticator peer user hash : List ℕ) → length (ntResponse authenticator peer user hash) ≡ 24
+unfolding ntResponse
+length-nt-response authenticator peer user hash =
+    let c = challengeHash peer authenticator user in
+    length-three (blockOf hash c 0) (blockOf hash c 1) (blockOf hash c 2) ∙ omega (arith, length-block hash c 0, length-block hash c 1, length-block hash c 2)
+
+pub length-authenticator : (hash response peer authenticator user : List ℕ) → length (authenticatorOf hash response peer authenticator user) ≡ 20
+unfolding authenticatorOf
+length-authenticator hash response peer authenticator user = length-sha1 _
+
+pub length-digits : (string : List ℕ) → length (digitsOf string) ≡ 40
+unfolding digitsOf
+length-digits string = length-cells 40 _
+
+-- the constants of the authenticator string have 39 and 41 octets
+pub length-constants : (length magic ≡ 39) × (length padding ≡ 41)
+unfolding magic padding
+length-constants = (refl, refl)
+
+-- ---- what is given
+pub password-hash-given : (units : List ℕ) → length units ≤ 256 → passwordHashTold units ≡ gives (passwordHash units)
+unfolding passwordHashTold
+password-hash-given units h = sym (given _ _ _ _ h refl)
+
+pub user-given : (name : List ℕ) → length name ≤ 256 → userTold name ≡ gives (record { start = userStart name; len = length (userOf name) })
+unfolding userTold
+user-given name h = sym (given _ _ _ _ h refl)
+
+pub challenge-hash-given : (peer authenticator user : List ℕ) → length user ≤ 256 → challengeHashTold peer authenticator user ≡ gives (challengeHash peer authenticator user)
+unfolding challengeHashTold
+challenge-hash-given peer authenticator user h = sym (given _ _ _ _ h refl)
+
+pub nt-response-given : (authenticator peer user hash : List ℕ) → length user ≤ 256 → ntResponseTold authenticator peer user hash ≡ gives (ntResponse authenticator peer user hash)
+unfolding ntResponseTold
+nt-response-given authenticator peer user hash h = sym (given _ _ _ _ h refl)
+
+pub authenticator-given : (hash response peer authenticator user : List ℕ) → length user ≤ 256 → authenticatorTold hash response peer authenticator user ≡ gives (authenticatorOf hash response peer authenticator user)
+unfolding authenticatorTold
+authenticator-given hash response peer authenticator user h = sym (given _ _ _ _ h refl)
+
+-- ---- what is returned
+value : {A : Type 0} {t : Told A} {x : A} → t ≡ gives x → t .value ≡ x
+value {A} e = ap (λ (t : Told A). t .value) e
+
+pub password-hash-octets : (r : PasswordHash) (units : List ℕ) → toldPasswordHash r ≡ passwordHashTold units → length units ≤ 256 → r .octets ≡ passwordHash units
+password-hash-octets r units e h = value (e ∙ password-hash-given units h)
+
+pub user-place : (r : User) (name : List ℕ) → toldUser r ≡ userTold name → length name ≤ 256 → (r .start ≡ userStart name) × (r .len ≡ length (userOf name))
+user-place r name e h =
+    let p = value (e ∙ user-given name h) in
+    (ap (λ (q : Place). q .start) p, ap (λ (q : Place). q .len) p)
+
+pub challenge-hash-octets : (r : ChallengeHash) (peer authenticator user : List ℕ) → toldChallengeHash r ≡ challengeHashTold peer authenticator user → length user ≤ 256 → r .octets ≡ challengeHash peer authenticator user
+challenge-hash-octets r peer authenticator user e h = value (e ∙ challenge-hash-given peer authenticator user h)
+
+pub nt-response-octets : (r : NtResponse) (authenticator peer user hash : List ℕ) → toldNtResponse r ≡ ntResponseTold authenticator peer user hash → length user ≤ 256 → r .octets ≡ ntResponse authenticator peer user hash
+nt-response-octets r authenticator peer user hash e h = value (e ∙ nt-response-given authenticator peer user hash h)
+
+pub authenticator-octets : (r : Authenticator) (hash response peer authenticator user : List ℕ) → toldAuthenticator r ≡ authenticatorTold hash response peer authenticator user → length user ≤ 256 → r .octets ≡ authenticatorOf hash response peer authenticator user
+authenticator-octets r hash response peer authenticator user e h = value (e ∙ authenticator-given hash response peer authenticator user h)

@@ -1,0 +1,3 @@
+pub mod Users
+pub mod Responses
+pub mod Answers
