@@ -1,11 +1,11 @@
 // Runs the cases of standard input, a line each, and writes the name, the answer's number and the result of each.
 mod ciphers;
 mod digests;
+mod responses;
 mod script;
 mod tables;
 
-// One line. A line that begins with none of the names is a comment.
-fn run_line(line: &[u8]) {
+fn run_digest(line: &[u8]) {
     if script::named(line, b"md4") {
         digests::md4(line);
         return;
@@ -20,8 +20,32 @@ fn run_line(line: &[u8]) {
     }
     if script::named(line, b"parity") {
         ciphers::parity(line);
+    }
+}
+
+fn run_response(line: &[u8]) {
+    if script::named(line, b"password_hash") {
+        responses::password_hash(line);
         return;
     }
+    if script::named(line, b"user") {
+        responses::user(line);
+        return;
+    }
+    if script::named(line, b"challenge_hash") {
+        responses::challenge_hash(line);
+        return;
+    }
+    if script::named(line, b"nt_response") {
+        responses::nt_response(line);
+        return;
+    }
+    if script::named(line, b"authenticator") {
+        responses::authenticator(line);
+    }
+}
+
+fn run_table(line: &[u8]) {
     if script::named(line, b"check") {
         tables::check(line);
         return;
@@ -29,6 +53,13 @@ fn run_line(line: &[u8]) {
     if script::named(line, b"find") {
         tables::find(line);
     }
+}
+
+// One line. A line that begins with none of the names is a comment.
+fn run_line(line: &[u8]) {
+    run_digest(line);
+    run_response(line);
+    run_table(line);
 }
 
 fn run(text: &[u8]) {

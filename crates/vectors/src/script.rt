@@ -45,7 +45,8 @@ fn field_start(line: &[u8], k: usize) -> usize
     at
 }
 
-fn least(a: usize, b: usize) -> usize
+// The smaller of two.
+pub fn least(a: usize, b: usize) -> usize
     ensures { λ r. ⌜ (r ≤ a) × (r ≤ b) ⌝ }
 {
     if a < b {
