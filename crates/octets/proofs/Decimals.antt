@@ -2,13 +2,15 @@
 use Prim.Native.Nat.{ℕ, zero, suc, _+_, _-_, _*_, _/_, _%_, _≤_, _<_}
 use mathlib.Core.Path.{_≡_, refl, sym, ap, _∙_}
 use mathlib.Core.List.{List, [], _∷_, _++_, append-assoc, append-nil}
+use mathlib.Core.Bool.{true, false}
 use native.Mathlib.Omega.{arith}
-use lib.ListN.{length, drop, set, length-set, length-append, length-drop, drop-of-length-le}
+use lib.ListN.{length, take, drop, set, length-set, length-append, length-drop, drop-of-length-le}
 use lib.Seq.{drop-cons, drop-set-lt, getD-set-same}
 use borrow.Author.Tests.{lt-ltb, le-ltb}
 use borrow.Author.Needs.{needs}
+use Rattle.octets.specs.Choice.{pick}
 use Rattle.octets.specs.Octets.{decimals, decimal, DigitsFrom, digits, digitValue, numberFrom, number, isDigit}
-use Rattle.octets.proofs.Exits.{pick-true, pick-false, below}
+use Rattle.octets.proofs.Exits.{pick-true, pick-false, below, tested}
 use Rattle.octets.proofs.Scans.{ten}
 
 -- the digits of n are those of m, and then digits from i on
@@ -115,6 +117,26 @@ digits-decimals (suc k) n s =
     ∙ digits-decimals k (n / 10) ((48 + n % 10) ∷ s)
     ∙ omega (arith, digit-first (48 + n % 10) s (omega arith) (omega arith), length-append (decimals k (n / 10)) ((48 + n % 10) ∷ []))))
 
+-- all of a list are digits, and no digit follows
+pub digits-append : (e s : List ℕ) → digits e ≡ length e → digits s ≡ 0 → digits (e ++ s) ≡ length e
+unfolding digits pick
+digits-append [] s h k = k
+digits-append (x ∷ xs) s h k = tested (isDigit x) (λ t. rw t (ap suc (digits-append xs s (more t h) k))) (λ t. none t h)
+  where
+    more : isDigit x ≡ true → digits (x ∷ xs) ≡ length (x ∷ xs) → digits xs ≡ length xs
+    more t h = let z : suc (digits xs) ≡ suc (length xs) = rw t at h in omega arith
+
+    none : isDigit x ≡ false → digits (x ∷ xs) ≡ length (x ∷ xs) → digits ((x ∷ xs) ++ s) ≡ length (x ∷ xs)
+    none t h = let z : 0 ≡ suc (length xs) = rw t at h in absurd (omega arith)
+
+-- the digits that a list begins with
+pub digits-front : (s : List ℕ) → (digits s ≤ length s) × (digits (take (digits s) s) ≡ digits s)
+unfolding digits pick
+digits-front [] = (omega arith, refl)
+digits-front (x ∷ xs) =
+    let f = digits-front xs in
+    tested (isDigit x) (λ t. rw t (omega arith, rw t (ap suc (f .1)))) (λ t. rw t (omega arith, refl))
+
 -- 1 to 10 digits, which read as the number; other octets may follow
 pub some-decimal : (n : ℕ) → 1 ≤ length (decimal n)
 unfolding decimal
@@ -124,9 +146,9 @@ pub few-decimal : (n : ℕ) → length (decimal n) ≤ 10
 unfolding decimal
 few-decimal n = few-decimals 10 n
 
-pub digits-decimal : (n : ℕ) (s : List ℕ) → digits s ≡ 0 → digits (decimal n ++ s) ≡ length (decimal n)
-unfolding decimal
-digits-decimal n s e = omega (arith, digits-decimals 10 n s)
+pub digits-decimal : (n : ℕ) → digits (decimal n) ≡ length (decimal n)
+unfolding decimal digits
+digits-decimal n = ap digits (sym (append-nil (decimals 10 n))) ∙ omega (arith, digits-decimals 10 n [])
 
 pub number-decimal : (n : ℕ) → n ≤ 9999999999 → number (decimal n) ≡ n
 unfolding decimal number ten

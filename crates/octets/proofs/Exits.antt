@@ -42,6 +42,12 @@ both false b e = (e, cc)
 pub clash : {A : Type 0} {b : Bool} → b ≡ false → b ≡ true → A
 clash p q = let z : _≡_ {A = ℕ} 0 1 = cc in absurd (omega arith)
 
+-- two tests in a row both hold
+pub pick-both : (a b : Bool) → pick a b false ≡ true → (a ≡ true) × (b ≡ true)
+unfolding pick
+pick-both true b e = (refl, e)
+pick-both false b e = (e, cc)
+
 -- the two cases of a test, and of a comparison
 pub tested : {A : Type 0} (b : Bool) → (b ≡ true → A) → (b ≡ false → A) → A
 tested true f g = f refl

@@ -6,3 +6,4 @@ pub mod Parts
 pub mod Decimals
 pub mod Tables
 pub mod Appends
+pub mod Hex

@@ -1,5 +1,5 @@
 -- Octets: equality, numbers of two octets, hex digits, decimal digits.
-use Prim.Native.Nat.{ℕ, zero, suc, _+_, _-_, _*_, _/_, _%_}
+use Prim.Native.Nat.{ℕ, zero, suc, _+_, _-_, _*_, _/_, _%_, _<_}
 use mathlib.Core.Path.{_≡_}
 use mathlib.Core.List.{List, [], _∷_, _++_}
 use mathlib.Core.Bool.{Bool, true, false}
@@ -9,6 +9,10 @@ use Rattle.octets.specs.Choice.{pick}
 use Rattle.octets.specs.Lists.{part}
 use Rattle.octets.specs.declared.Order.{Order}
 use Rattle.octets.specs.declared.Order.the-variants.{Little, Big}
+
+-- all are octets
+abbrev pub AreOctets : List ℕ → Type 0
+AreOctets s = (k : ℕ) → getD s k 0 < 256
 
 -- whether x stands at i
 unfoldable pub octetIs : List ℕ → ℕ → ℕ → Bool

@@ -1,9 +1,11 @@
 -- 01, "Packet forms": the octets of each packet.
-use Prim.Native.Nat.{ℕ, _+_, _-_, _/_, _%_}
+use Prim.Native.Nat.{ℕ, _+_, _-_, _/_, _%_, _≤_}
+use mathlib.Core.Path.{_≡_}
+use mathlib.Core.Bool.{true}
 use mathlib.Core.List.{List, [], _∷_, _++_}
 use lib.ListN.{length}
 use Rattle.octets.specs.Lists.{cells}
-use Rattle.octets.specs.Octets.{hexAt, decimal}
+use Rattle.octets.specs.Octets.{allHex, hexAt, digits, number, decimal}
 
 -- ---- the two messages, in ASCII
 -- `S=`
@@ -37,6 +39,19 @@ successMessage s text = wordS ++ (s ++ (wordM ++ text))
 -- `E=` 1 to 10 digits, ` R=` a digit, ` C=` 32 digits, ` V=` 1 to 10 digits, ` M=`, then any octets or none
 unfoldable pub failureMessage : List ℕ → ℕ → List ℕ → List ℕ → List ℕ → List ℕ
 failureMessage e r c v text = wordE ++ (e ++ (wordR ++ (r ∷ (wordC ++ (c ++ (wordV ++ (v ++ (wordM ++ text))))))))
+
+-- what the parts of a Failure message are: 1 to 10 digits, R 0 or 1, 32 hex digits of either case, 1 to 10 digits whose number is 3
+pub record FailureSpelling (e : List ℕ) (retry : ℕ) (c v : List ℕ) : Type 0 where
+  pub e-digits : digits e ≡ length e
+  pub e-some : 1 ≤ length e
+  pub e-few : length e ≤ 10
+  pub bit : retry ≤ 1
+  pub c-size : length c ≡ 32
+  pub c-hex : allHex true c ≡ true
+  pub v-digits : digits v ≡ length v
+  pub v-some : 1 ≤ length v
+  pub v-few : length v ≤ 10
+  pub v-three : number v ≡ 3
 
 -- ---- the first four packets: Code, Identifier, L, Type 26, OpCode, MS-CHAPv2-ID, MS-Length = L - 5, and the rest
 unfoldable pub header : ℕ → ℕ → ℕ → ℕ → ℕ → List ℕ

@@ -23,9 +23,21 @@ use Rattle.packet.specs.declared.Reading.the-variants.{Refused, Read}
 abbrev pub place : ℕ → ℕ → Place
 place start len = record { start = start; len = len }
 
+abbrev pub nowhere : Place
+nowhere = place 0 0
+
+-- the octets of p at a place
+abbrev pub at : List ℕ → Place → List ℕ
+at p a = part p (a .start) (a .len)
+
+-- kind, Identifier, MS-CHAPv2-ID, L, code, and the three places
+abbrev pub reading : Kind → ℕ → ℕ → ℕ → ℕ → Place → Place → Place → Packet
+reading kind id chapid l code challenge response tail =
+    record { kind = kind; id = record { 0 = id }; chapid = record { 0 = chapid }; length = l; code = code; challenge = challenge; response = response; tail = tail }
+
 -- what stands beside a refusal, and means nothing
 abbrev pub noPacket : Packet
-noPacket = record { kind = Challenge; id = record { 0 = 0 }; chapid = record { 0 = 0 }; length = 0; code = 0; challenge = place 0 0; response = place 0 0; tail = place 0 0 }
+noPacket = reading Challenge 0 0 0 0 nowhere nowhere nowhere
 
 abbrev pub refusal : ℕ → Told Packet
 refusal k = refuses k noPacket
@@ -42,7 +54,7 @@ chapOk q = pick (ltb (length q) 9) false (eqb (numberAt Big q 7) (length q - 5))
 -- a packet with an MS-CHAPv2-ID, whose name or text goes from tail to L
 unfoldable pub chapRead : Kind → List ℕ → ℕ → Place → Place → ℕ → Told Packet
 chapRead kind q code challenge response tail =
-    gives (record { kind = kind; id = record { 0 = getD q 1 0 }; chapid = record { 0 = getD q 6 0 }; length = length q; code = code; challenge = challenge; response = response; tail = place tail (length (drop tail q)) })
+    gives (reading kind (getD q 1 0) (getD q 6 0) (length q) code challenge response (place tail (length (drop tail q))))
 
 -- Value-Size 16 at 9, challenge 10..25, name from 26, one octet or more
 unfoldable pub readChallenge : List ℕ → Told Packet
@@ -50,7 +62,7 @@ readChallenge q =
     pick (not (chapOk q)) (refusal 16)
     (pick (ltb (length q) 27) (refusal 17)
     (pick (not (octetIs q 9 16)) (refusal 17)
-    (chapRead Challenge q 0 (place 10 16) (place 0 0) 26)))
+    (chapRead Challenge q 0 (place 10 16) nowhere 26)))
 
 -- Value-Size 49 at 9, peer challenge 10..25, eight zeros 26..33, NT-Response 34..57, flags 58 zero, name from 59, 0 to 256 octets
 unfoldable pub readResponse : List ℕ → Told Packet
@@ -70,13 +82,17 @@ readSuccess q =
     (pick (not (standsAt q 9 wordS)) (refusal 17)
     (pick (not (hexStands false q 11 40)) (refusal 17)
     (pick (not (standsAt q 51 wordM)) (refusal 17)
-    (chapRead SuccessRequest q 0 (place 0 0) (place 11 40) 54))))
+    (chapRead SuccessRequest q 0 nowhere (place 11 40) 54))))
 
 -- ---- a Failure Request, message from 9: `E=` 1 to 10 digits, ` R=` 0 or 1, ` C=` 32 hex digits of either case, ` V=` 1 to 10 digits
 -- whose number is 3, ` M=`, then any octets or none. There are a digits after `E=`, and b after ` V=`
 -- whether 0 or 1 stands at i, as a digit
 unfoldable pub isBit : List ℕ → ℕ → Bool
 isBit q i = pick (octetIs q i 48) true (octetIs q i 49)
+
+-- the kind of a Failure Request, by its R, and by R's digit at i
+unfoldable pub failureOf : ℕ → Kind
+failureOf retry = pick (eqb retry 1) RetryRequest FailureRequest
 
 unfoldable pub failureKind : List ℕ → ℕ → Kind
 failureKind q i = pick (octetIs q i 49) RetryRequest FailureRequest
@@ -86,7 +102,7 @@ unfoldable pub isVersion : List ℕ → ℕ → ℕ → Bool
 isVersion q i n = eqb (number (part q i n)) 3
 
 unfoldable pub failureRead : List ℕ → ℕ → ℕ → Told Packet
-failureRead q a b = chapRead (failureKind q (14 + a)) q (number (part q 11 a)) (place (18 + a) 32) (place 0 0) (56 + a + b)
+failureRead q a b = chapRead (failureKind q (14 + a)) q (number (part q 11 a)) (place (18 + a) 32) nowhere (56 + a + b)
 
 unfoldable pub failureEnd : List ℕ → ℕ → ℕ → Told Packet
 failureEnd q a b =
@@ -121,8 +137,7 @@ readFailure q =
 
 -- ---- a packet with no MS-CHAPv2-ID
 unfoldable pub bareRead : Kind → List ℕ → Told Packet
-bareRead kind q =
-    gives (record { kind = kind; id = record { 0 = getD q 1 0 }; chapid = record { 0 = 0 }; length = length q; code = 0; challenge = place 0 0; response = place 0 0; tail = place 0 0 })
+bareRead kind q = gives (reading kind (getD q 1 0) 0 (length q) 0 nowhere nowhere nowhere)
 
 -- L = l, nothing after the OpCode, or no OpCode
 unfoldable pub readBare : Kind → ℕ → List ℕ → Told Packet

@@ -465,7 +465,7 @@ pub fn response_at(p: &[u8], at: usize) -> [u8; 24]
 
 // The sixteen octets of the 32 hex digits from a place on: the challenge of a Failure Request.
 pub fn unhex_at(p: &[u8], at: usize) -> [u8; 16]
-    ensures { λ r. ⌜ r ≡ cells 16 (unhexAt (drop at (now (p .entry)))) ⌝ }
+    ensures { λ r. ⌜ r ≡ cells 16 (unhexAt (part (now (p .entry)) at 32)) ⌝ }
 {
-    octets::from_hex(octets::rest(p, at))
+    octets::from_hex(octets::part(p, at, 32))
 }

@@ -1,5 +1,5 @@
 use Rattle.octets.proofs.Appends.{laid-more, laid-done}
-use Rattle.writers.proofs.Sizes.{laid-challenge}
+use Rattle.writers.proofs.Layouts.{laid-challenge}
 use borrow.Author.Needs.{needs}
 use Rattle.writers.proofs.put_challenge.Statement.{statement}
 use Rattle.writers.proofs.put_challenge.Tie as tie

@@ -1,5 +1,5 @@
 use Rattle.octets.proofs.Appends.{laid-more, laid-done}
-use Rattle.writers.proofs.Sizes.{laid-failure}
+use Rattle.writers.proofs.Layouts.{laid-failure}
 use native.Mathlib.Omega.{arith}
 use borrow.Author.Needs.{needs}
 use Rattle.writers.proofs.put_failure.Statement.{statement}

@@ -1,5 +1,5 @@
 use Rattle.octets.proofs.Appends.{laid-more, laid-done}
-use Rattle.writers.proofs.Sizes.{laid-response}
+use Rattle.writers.proofs.Layouts.{laid-response}
 use borrow.Author.Needs.{needs}
 use Rattle.writers.proofs.put_response.Statement.{statement}
 use Rattle.writers.proofs.put_response.Tie as tie

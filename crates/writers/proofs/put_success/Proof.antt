@@ -1,5 +1,5 @@
 use Rattle.octets.proofs.Appends.{laid-more, laid-done}
-use Rattle.writers.proofs.Sizes.{laid-success}
+use Rattle.writers.proofs.Layouts.{laid-success}
 use borrow.Author.Needs.{needs}
 use Rattle.writers.proofs.put_success.Statement.{statement}
 use Rattle.writers.proofs.put_success.Tie as tie

@@ -1,5 +1,5 @@
 use Rattle.writers.proofs.Writing.{writes}
-use Rattle.writers.proofs.Sizes.{length-challengePacket}
+use Rattle.packet.proofs.Sizes.{length-challengePacket}
 use Rattle.writers.proofs.write_challenge.Statement.{statement}
 use Rattle.writers.proofs.write_challenge.Tie as tie
 

@@ -1,5 +1,5 @@
 use Rattle.writers.proofs.Writing.{writes}
-use Rattle.writers.proofs.Sizes.{length-failureRequest}
+use Rattle.packet.proofs.Sizes.{length-failureRequest}
 use Rattle.writers.proofs.write_failure_request.Statement.{statement}
 use Rattle.writers.proofs.write_failure_request.Tie as tie
 

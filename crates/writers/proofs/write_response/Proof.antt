@@ -1,5 +1,6 @@
 use Rattle.writers.proofs.Writing.{writes}
-use Rattle.writers.proofs.Sizes.{length-responsePacket, name-fits}
+use Rattle.packet.proofs.Sizes.{length-responsePacket}
+use Rattle.writers.proofs.Layouts.{name-fits}
 use Rattle.writers.proofs.write_response.Statement.{statement}
 use Rattle.writers.proofs.write_response.Tie as tie
 

@@ -1,5 +1,5 @@
 use Rattle.writers.proofs.Writing.{writes}
-use Rattle.writers.proofs.Sizes.{length-successRequest}
+use Rattle.packet.proofs.Sizes.{length-successRequest}
 use Rattle.writers.proofs.write_success_request.Statement.{statement}
 use Rattle.writers.proofs.write_success_request.Tie as tie
 

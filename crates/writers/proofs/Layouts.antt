@@ -1,4 +1,4 @@
--- How long each packet is, and its parts in the order in which they are laid down.
+-- The parts of each packet, in the order in which they are laid down.
 use Prim.Native.Nat.{ℕ, _+_, _≤_}
 use mathlib.Core.Path.{_≡_}
 use mathlib.Core.List.{List, [], _∷_, _++_}
@@ -8,11 +8,8 @@ use Rattle.octets.specs.Lists.{cells}
 use Rattle.octets.specs.Octets.{hexAt, decimal}
 use Rattle.octets.proofs.Lists.{length-cells}
 use Rattle.octets.proofs.Appends.{Laid, laid-none}
+use Rattle.packet.proofs.Sizes.{length-chapPacket}
 use Rattle.packet.specs.Forms.{wordS, wordE, wordR, wordC, wordV, wordM, eightZeros, successMessage, failureMessage, header, chapPacket, challengePacket, responsePacket, successRequest, failureRequest}
-
-length-chapPacket : (code op id chapid : ℕ) (body : List ℕ) → length (chapPacket code op id chapid body) ≡ 9 + length body
-unfolding chapPacket header
-length-chapPacket code op id chapid body = omega arith
 
 -- the header, and then the rest
 laid-body : (code op id chapid l : ℕ) (body old : List ℕ) → 9 + length body ≡ l → l ≤ length old → Laid (chapPacket code op id chapid body) old 0 old (header code op id chapid l ++ body)
@@ -20,19 +17,10 @@ unfolding chapPacket
 laid-body code op id chapid l body old e h =
     rw (← e) (laid-none (length-chapPacket code op id chapid body) (omega arith))
 
-pub length-challengePacket : (id chapid : ℕ) (challenge name : List ℕ) → length challenge ≡ 16 → length (challengePacket id chapid challenge name) ≡ 26 + length name
-unfolding challengePacket
-length-challengePacket id chapid challenge name e = omega (arith, length-chapPacket 1 1 id chapid (16 ∷ (challenge ++ name)), length-append challenge name)
-
 pub laid-challenge : (id chapid : ℕ) (challenge name old : List ℕ) → length challenge ≡ 16 → 26 + length name ≤ length old → Laid (challengePacket id chapid challenge name) old 0 old (header 1 1 id chapid (26 + length name) ++ ((16 ∷ []) ++ (challenge ++ name)))
 unfolding challengePacket
 laid-challenge id chapid challenge name old e h =
     laid-body 1 1 id chapid (26 + length name) (16 ∷ (challenge ++ name)) old (omega (arith, length-append challenge name)) h
-
-pub length-responsePacket : (id chapid : ℕ) (peer response name : List ℕ) → length peer ≡ 16 → length response ≡ 24 → length (responsePacket id chapid peer response name) ≡ 59 + length name
-unfolding responsePacket
-length-responsePacket id chapid peer response name e f =
-    simp (length-chapPacket, length-append) (omega arith)
 
 -- a name of at most 256 octets keeps L within 1,020
 pub name-fits : (n : ℕ) → n ≤ 256 → 59 + n ≤ 1020
@@ -43,21 +31,10 @@ unfolding responsePacket
 laid-response id chapid peer response name old e f h =
     laid-body 2 2 id chapid (59 + length name) (49 ∷ (peer ++ (eightZeros ++ (response ++ (0 ∷ name))))) old (simp length-append (omega arith)) h
 
-pub length-successRequest : (id chapid : ℕ) (string text : List ℕ) → length (successRequest id chapid string text) ≡ 54 + length text
-unfolding successRequest successMessage
-length-successRequest id chapid string text =
-    simp (length-chapPacket, length-append, length-cells) (omega arith)
-
 pub laid-success : (id chapid : ℕ) (string text old : List ℕ) → 54 + length text ≤ length old → Laid (successRequest id chapid string text) old 0 old (header 1 3 id chapid (54 + length text) ++ (wordS ++ (cells 40 (hexAt string) ++ (wordM ++ text))))
 unfolding successRequest successMessage
 laid-success id chapid string text old h =
     laid-body 1 3 id chapid (54 + length text) (wordS ++ (cells 40 (hexAt string) ++ (wordM ++ text))) old (simp (length-append, length-cells) (omega arith)) h
-
--- the code has d digits
-pub length-failureRequest : (id chapid code retry d : ℕ) (challenge text : List ℕ) → d ≡ length (decimal code) → length (failureRequest id chapid code retry challenge text) ≡ 57 + d + length text
-unfolding failureRequest failureMessage
-length-failureRequest id chapid code retry d challenge text e =
-    simp (length-chapPacket, length-append, length-cells) (omega arith)
 
 pub laid-failure : (id chapid code retry l : ℕ) (challenge text old : List ℕ) → l ≡ 57 + length (decimal code) + length text → l ≤ length old → Laid (failureRequest id chapid code retry challenge text) old 0 old (header 1 4 id chapid l ++ (wordE ++ (decimal code ++ (wordR ++ (((48 + retry) ∷ []) ++ (wordC ++ (cells 32 (hexAt challenge) ++ ((wordV ++ (51 ∷ wordM)) ++ text))))))))
 unfolding failureRequest failureMessage
