@@ -7,9 +7,7 @@ use native.Mathlib.Nat.{le-of-suc-le-suc, not-suc-le-zero}
 use native.Mathlib.Omega.{arith}
 use lib.ListN.{length, getD}
 use lib.Seq.{ext-getD}
-use lib.Dec.{eqb}
 use borrow.Author.Tests.{lt-ltb, le-ltb, eq-eqb, ne-eqb}
-use Rattle.octets.specs.Choice.{pick}
 use Rattle.octets.specs.Lists.{cells}
 use Rattle.octets.specs.Octets.{AreOctets, isHex, allHex, hexValue, hexDigit, hexAt, unhexAt}
 use Rattle.octets.proofs.Exits.{pick-true, pick-false, pick-both, below}

@@ -1,12 +1,11 @@
 -- What is written reads back, at the right end, whatever padding follows.
 use Prim.Native.Nat.{ℕ, _+_, _-_, _≤_}
 use mathlib.Core.Path.{_≡_, refl, sym, ap, _∙_}
-use mathlib.Core.List.{List, [], _∷_, _++_, append-assoc}
+use mathlib.Core.List.{List, [], _∷_, _++_}
 use mathlib.Core.Bool.{true, false, not}
 use native.Mathlib.Omega.{arith}
 use lib.ListN.{length, getD, take, drop, length-append}
 use lib.Seq.{take-at, take-length}
-use lib.Dec.{eqb}
 use borrow.Author.Tests.{le-ltb, eq-eqb, ne-eqb}
 use Rattle.octets.specs.Choice.{pick}
 use Rattle.octets.specs.Lists.{part, cells}
@@ -20,12 +19,11 @@ use Rattle.octets.proofs.Parts.{part-pad, part-from, drop-next, getD-from, octe
 use Rattle.answer.specs.Outcome.{gives}
 use Rattle.packet.specs.declared.End.{End}
 use Rattle.packet.specs.declared.End.the-variants.{Peer, Server}
-use Rattle.packet.specs.declared.Kind.{Kind}
-use Rattle.packet.specs.declared.Kind.the-variants.{Challenge, Response, SuccessRequest, FailureRequest, RetryRequest, SuccessResponse, FailureResponse, EapSuccess, EapFailure}
+use Rattle.packet.specs.declared.Kind.the-variants.{Challenge, Response, SuccessRequest, SuccessResponse, FailureResponse, EapSuccess, EapFailure}
 use Rattle.packet.specs.declared.Packet.{Packet}
 use Rattle.packet.specs.Forms.{wordS, wordE, wordR, wordC, wordV, wordM, eightZeros, successMessage, FailureSpelling, failureMessage, header, chapPacket, challengePacket, responsePacket, successRequest, failureRequest, successResponse, failureResponse, eapSuccess, eapFailure}
 use Rattle.packet.specs.Reader.{readPacket, readCut, readWhole, readAt, readAtPeer, readAtServer, chapOk, chapRead, readChallenge, readResponse, readSuccess, readFailure, isBit, failureKind, failureOf, isVersion, failureRead, failureEnd, failureVersion, failureMiddle, failureCode, readBare, bareRead, reading, place, nowhere, at}
-use Rattle.packet.proofs.Sizes.{length-chapPacket, length-challengePacket, length-responsePacket, length-successRequest}
+use Rattle.packet.proofs.Sizes.{length-chapPacket, length-challengePacket, length-responsePacket, length-success, length-failure}
 
 -- q reads as x, with these octets at x's places, whatever follows q
 pub record Back (end : End) (q : List ℕ) (x : Packet) (challenge response tail : List ℕ) : Type 0 where
@@ -161,8 +159,7 @@ module _ (id chapid : ℕ) (peer response name : List ℕ) (sixteen : length pee
 
 module _ (id chapid : ℕ) (s text : List ℕ) (forty : length s ≡ 40) (upper : allHex false s ≡ true) (few : length text ≤ 966) where
   success-size : 9 + length (successMessage s text) ≡ 54 + length text
-  unfolding successMessage
-  success-size = simp length-append (omega arith)
+  success-size = sym (length-chapPacket 1 3 id chapid (successMessage s text)) ∙ length-success id chapid s text forty
 
   s-from : drop 11 (chapPacket 1 3 id chapid (successMessage s text)) ≡ s ++ (wordM ++ text)
   unfolding successMessage chapPacket header
@@ -178,7 +175,7 @@ module _ (id chapid : ℕ) (s text : List ℕ) (forty : length s ≡ 40) (upper 
   unfolding readSuccess chapRead successMessage chapPacket header
   success-form =
       let q = chapPacket 1 3 id chapid (successMessage s text) in
-      let l : length q ≡ 54 + length text = length-chapPacket 1 3 id chapid (successMessage s text) ∙ success-size in
+      let l : length q ≡ 54 + length text = length-success id chapid s text forty in
       pick-false _ _ _ (ap not (chap-ok 1 3 id chapid (successMessage s text) (omega (arith, success-size))))
       ∙ pick-false _ _ _ (ap not (stands-from q wordS (s ++ (wordM ++ text)) 9 refl))
       ∙ pick-false _ _ _ (ap not (hex-from false q s (wordM ++ text) 11 40 s-from forty upper))
@@ -188,7 +185,7 @@ module _ (id chapid : ℕ) (s text : List ℕ) (forty : length s ≡ 40) (upper 
   pub success-back : Back Peer (chapPacket 1 3 id chapid (successMessage s text)) (reading SuccessRequest id chapid (54 + length text) 0 nowhere (place 11 40) (place 54 (length text))) [] s text
   success-back =
       let q = chapPacket 1 3 id chapid (successMessage s text) in
-      let l : length q ≡ 54 + length text = length-chapPacket 1 3 id chapid (successMessage s text) ∙ success-size in
+      let l : length q ≡ 54 + length text = length-success id chapid s text forty in
       record {
         reads = λ pad. chap-whole 1 3 id chapid (successMessage s text) (omega (arith, success-size)) Peer pad ∙ to-success q (omega arith) ∙ success-form;
         challenge-is = λ pad. refl;
@@ -226,9 +223,11 @@ module _ (id chapid : ℕ) (e : List ℕ) (retry : ℕ) (c v text : List ℕ) (f
   abbrev q : List ℕ
   q = chapPacket 1 4 id chapid message
 
+  failure-length : length q ≡ 56 + length e + length v + length text
+  failure-length = length-failure id chapid e (48 + retry) c v text (f .c-size)
+
   failure-size : 9 + length message ≡ 56 + length e + length v + length text
-  unfolding failureMessage
-  failure-size = let h = f .c-size in simp length-append (omega arith)
+  failure-size = sym (length-chapPacket 1 4 id chapid message) ∙ failure-length
 
   e-from : drop 11 q ≡ e ++ (wordR ++ ((48 + retry) ∷ (wordC ++ (c ++ (wordV ++ (v ++ (wordM ++ text)))))))
   unfolding failureMessage chapPacket header
@@ -261,15 +260,12 @@ module _ (id chapid : ℕ) (e : List ℕ) (retry : ℕ) (c v text : List ℕ) (f
   abbrev failure-reading : Packet
   failure-reading = reading (failureOf retry) id chapid (56 + length e + length v + length text) (number e) (place (18 + length e) 32) nowhere (place (56 + length e + length v) (length text))
 
-  failure-size′ : length q ≡ 56 + length e + length v + length text
-  failure-size′ = length-chapPacket 1 4 id chapid message ∙ failure-size
-
   read-there : failureRead q (length e) (length v) ≡ gives failure-reading
   unfolding failureRead chapRead chapPacket header
   read-there =
       let k = kind-there q _ (14 + length e) retry (f .bit) bit-from in
       let n : number (part q 11 (length e)) ≡ number e = ap number (part-from q e _ 11 (length e) e-from refl) in
-      (λ j. gives (reading (k j) id chapid (failure-size′ j) (n j) (place (18 + length e) 32) nowhere (place (56 + length e + length v) (length (words-from j)))))
+      (λ j. gives (reading (k j) id chapid (failure-length j) (n j) (place (18 + length e) 32) nowhere (place (56 + length e + length v) (length (words-from j)))))
 
   end-there : failureEnd q (length e) (length v) ≡ gives failure-reading
   unfolding failureEnd isVersion
@@ -310,7 +306,7 @@ module _ (id chapid : ℕ) (e : List ℕ) (retry : ℕ) (c v text : List ℕ) (f
 
   pub failure-back : Back Peer q failure-reading c [] text
   failure-back =
-      let l = failure-size′ in
+      let l = failure-length in
       record {
         reads = λ pad. chap-whole 1 4 id chapid message (omega (arith, failure-size)) Peer pad ∙ to-failure q (omega arith) ∙ failure-form;
         challenge-is = λ pad. part-pad q pad (18 + length e) 32 (omega arith) ∙ part-from q c _ (18 + length e) 32 digits-from (f .c-size);

@@ -2,3 +2,5 @@ pub mod Sizes
 pub mod Back
 pub mod Shapes
 pub mod Readings
+pub mod Order
+pub mod Exact

@@ -1,12 +1,12 @@
--- What a reading tells, that padding does not matter, and which answers there are.
+-- What a reading tells, and that padding does not matter.
 use Prim.Native.Nat.{ℕ, _+_, _*_, _≤_, _<_}
 use mathlib.Core.Path.{_≡_, refl, sym, ap, subst, _∙_}
 use mathlib.Core.List.{List, _++_}
-use mathlib.Core.Bool.{Bool, true, false, not, _&&_}
+use mathlib.Core.Bool.{Bool, true, false, not}
 use native.Mathlib.Omega.{arith}
 use lib.ListN.{length, getD, take, length-append, List·getD-append}
 use lib.Seq.{length-take-le, take-at, getD-take}
-use lib.Dec.{ltb, leb, eqb}
+use lib.Dec.{ltb, eqb}
 use borrow.Author.Tests.{ltb-false, le-ltb, eqb-true, not-false}
 use Rattle.octets.specs.Choice.{pick}
 use Rattle.octets.specs.Octets.{numberAt}
@@ -19,7 +19,7 @@ use Rattle.packet.specs.declared.Kind.{Kind}
 use Rattle.packet.specs.declared.Kind.the-variants.{Challenge, Response, SuccessRequest, FailureRequest, RetryRequest, SuccessResponse, FailureResponse, EapSuccess, EapFailure}
 use Rattle.packet.specs.declared.Packet.{Packet}
 use Rattle.packet.specs.Forms.{successResponse, failureResponse, eapSuccess, eapFailure}
-use Rattle.packet.specs.Reader.{refusal, chapRead, readChallenge, readResponse, readSuccess, failureOf, failureRead, failureEnd, failureVersion, failureMiddle, failureCode, readFailure, bareRead, readBare, readAtPeer, readAtServer, readAt, readWhole, readCut, readPacket}
+use Rattle.packet.specs.Reader.{refusal, failureOf, readAtPeer, readAtServer, readAt, readWhole, readCut, readPacket}
 use Rattle.packet.proofs.Shapes.{no-reading, past, Head, ChallengeShape, challenge-shape, ResponseShape, response-shape, SuccessShape, success-shape, FailureShape, failure-shape, BareShape, bare-response-shape, bare-eap-shape}
 
 -- the end that reads a kind
@@ -168,48 +168,3 @@ padding end p pad h k =
     whole-read end (q ++ pad) l s h m
     ∙ ap (λ (t : List ℕ). pick (ltb 1020 l) (refusal 12) (readWhole end t)) (take-at q pad l n)
     ∙ sym (whole-read end p l refl h k)
-
--- ---- every list of octets gets one answer at each end: one of the numbers 10 to 17 and nothing else, or 0 and a reading
-pub data Answered (t : Told Packet) : Type 0 where
-  refused : (k : ℕ) → (leb 10 k && leb k 17) ≡ true → t ≡ refusal k → Answered t
-  read : (x : Packet) → t ≡ gives x → Answered t
-
-no : (k : ℕ) → (leb 10 k && leb k 17) ≡ true → Answered (refusal k)
-no k h = refused k h refl
-
-yes : (x : Packet) → Answered (gives x)
-yes x = read x refl
-
-either : (b : Bool) (l r : Told Packet) → Answered l → Answered r → Answered (pick b l r)
-either b l r p q = arms Answered b p q
-
-ruleset answers = (no, yes, either)
-
-a-challenge : (q : List ℕ) → Answered (readChallenge q)
-unfolding readChallenge chapRead
-a-challenge q = search answers
-
-a-response : (q : List ℕ) → Answered (readResponse q)
-unfolding readResponse chapRead
-a-response q = search answers depth 9
-
-a-success : (q : List ℕ) → Answered (readSuccess q)
-unfolding readSuccess chapRead
-a-success q = search answers depth 9
-
-a-failure : (q : List ℕ) → Answered (readFailure q)
-unfolding readFailure failureCode failureMiddle failureVersion failureEnd failureRead chapRead
-a-failure q = search answers depth 16
-
-a-bare : (kind : Kind) (l : ℕ) (q : List ℕ) → Answered (readBare kind l q)
-unfolding readBare bareRead
-a-bare kind l q = search answers
-
-a-whole : (end : End) (q : List ℕ) → Answered (readWhole end q)
-unfolding readWhole readAt readAtPeer readAtServer
-a-whole Peer q = search (answers, a-bare, a-challenge, a-success, a-failure) depth 12
-a-whole Server q = search (answers, a-bare, a-response) depth 12
-
-pub answered : (end : End) (p : List ℕ) → Answered (readPacket end p)
-unfolding readPacket readCut
-answered end p = search (answers, a-whole) depth 9

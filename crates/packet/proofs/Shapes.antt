@@ -1,15 +1,15 @@
 -- What each packet's own form tells, where it is read: the places, their sizes, and all its octets. q is the packet, cut at L.
-use Prim.Native.Nat.{ℕ, _+_, _-_, _*_, _/_, _%_, _≤_, _<_}
+use Prim.Native.Nat.{ℕ, _+_, _-_, _/_, _%_, _≤_}
 use mathlib.Core.Path.{_≡_, refl, sym, ap, _∙_}
 use mathlib.Core.List.{List, [], _∷_, _++_}
-use mathlib.Core.Bool.{Bool, true, false, not}
+use mathlib.Core.Bool.{Bool, true, false}
 use native.Mathlib.Omega.{arith}
-use lib.ListN.{length, getD, take, drop, length-drop, take-append-drop}
+use lib.ListN.{length, getD, drop, length-drop, take-append-drop}
 use lib.Dec.{ltb, eqb}
 use borrow.Author.Tests.{ltb-false, eqb-true, eq-eqb, ne-eqb, not-false}
 use Rattle.octets.specs.Choice.{pick}
 use Rattle.octets.specs.Lists.{cells, sized, part}
-use Rattle.octets.specs.Octets.{AreOctets, octetIs, standsAt, numberAt, allHex, hexStands, hexAt, unhexAt, digits, number}
+use Rattle.octets.specs.Octets.{AreOctets, octetIs, numberAt, allHex, hexAt, unhexAt, digits, number}
 use Rattle.octets.specs.declared.Order.the-variants.{Big}
 use Rattle.octets.proofs.Exits.{pick-true, pick-false, passed, tested}
 use Rattle.octets.proofs.Lists.{sized-own}
@@ -17,13 +17,11 @@ use Rattle.octets.proofs.Decimals.{digits-front}
 use Rattle.octets.proofs.Hex.{hex-unhex}
 use Rattle.octets.proofs.Parts.{octet-is, cut, cut-one, sized-part, length-part, part-inside, stands-is, hex-stands-long, hex-stands-hex}
 use Rattle.answer.specs.Outcome.{Told, gives}
-use Rattle.packet.specs.declared.End.{End}
-use Rattle.packet.specs.declared.End.the-variants.{Peer, Server}
 use Rattle.packet.specs.declared.Kind.{Kind}
-use Rattle.packet.specs.declared.Kind.the-variants.{Challenge, Response, SuccessRequest, FailureRequest, RetryRequest, SuccessResponse, FailureResponse, EapSuccess, EapFailure}
+use Rattle.packet.specs.declared.Kind.the-variants.{Challenge, Response, SuccessRequest}
 use Rattle.packet.specs.declared.Packet.{Packet}
-use Rattle.packet.specs.Forms.{wordS, wordE, wordR, wordC, wordV, wordM, eightZeros, successMessage, FailureSpelling, failureMessage, header, chapPacket, challengePacket, responsePacket, successRequest, successResponse, failureResponse, eapSuccess, eapFailure}
-use Rattle.packet.specs.Reader.{refusal, reading, place, nowhere, chapOk, chapRead, readChallenge, readResponse, readSuccess, isBit, failureKind, failureOf, isVersion, failureRead, failureEnd, failureVersion, failureMiddle, failureCode, readFailure, readBare, bareRead, readAtPeer, readAtServer, readAt, readWhole, readCut, readPacket}
+use Rattle.packet.specs.Forms.{wordS, wordE, wordR, wordC, wordV, wordM, eightZeros, successMessage, FailureSpelling, failureMessage, header, chapPacket, challengePacket, responsePacket}
+use Rattle.packet.specs.Reader.{refusal, reading, place, nowhere, chapOk, chapRead, readChallenge, readResponse, readSuccess, isBit, failureKind, failureOf, isVersion, failureRead, failureEnd, failureVersion, failureMiddle, failureCode, readFailure, readBare, bareRead}
 
 -- ---- tests that were passed
 -- a refusal is no reading
@@ -123,29 +121,31 @@ response-shape q x h e =
       is = λ o. chap-is q 2 2 h (not-false _ ok) o ∙ ap (chapPacket 2 2 (getD q 1 0) (getD q 6 0)) body;
     }))))))
 
+-- the digits are exactly those that their 20 octets are written as
 pub record SuccessShape (q : List ℕ) (x : Packet) : Type 0 where
   pub least : 54 ≤ length q
   pub upper : allHex false (part q 11 40) ≡ true
+  pub string : cells 40 (hexAt (cells 20 (unhexAt (part q 11 40)))) ≡ part q 11 40
   pub reads : x ≡ reading SuccessRequest (getD q 1 0) (getD q 6 0) (length q) 0 nowhere (place 11 40) (place 54 (length (drop 54 q)))
-  pub is : AreOctets q → q ≡ successRequest (getD q 1 0) (getD q 6 0) (cells 20 (unhexAt (part q 11 40))) (drop 54 q)
+  pub is : AreOctets q → q ≡ chapPacket 1 3 (getD q 1 0) (getD q 6 0) (successMessage (part q 11 40) (drop 54 q))
 
 pub success-shape : (q : List ℕ) (x : Packet) → Head q 1 3 → readSuccess q ≡ gives x → SuccessShape q x
-unfolding readSuccess chapRead successRequest successMessage
+unfolding readSuccess chapRead successMessage
 success-shape q x h e =
     past _ 16 _ x refl e (λ ok e1.
-    past _ 17 _ x refl e1 (λ word e2.
+    past _ 17 _ x refl e1 (λ s= e2.
     past _ 17 _ x refl e2 (λ hex e3.
-    past _ 17 _ x refl e3 (λ end e4.
-    let m : part q 51 3 ≡ wordM = stands-is q 51 wordM (not-false _ end) in
-    let n : length (part q 11 40) ≡ 40 = hex-stands-long false q 11 40 (not-false _ hex) in
+    past _ 17 _ x refl e3 (λ m= e4.
+    let m : part q 51 3 ≡ wordM = stands-is q 51 wordM (not-false _ m=) in
     let u : allHex false (part q 11 40) ≡ true = hex-stands-hex false q 11 40 (not-false _ hex) in
-    let body : drop 9 q ≡ wordS ++ (cells 40 (hexAt (cells 20 (unhexAt (part q 11 40)))) ++ (wordM ++ drop 54 q)) =
-    cut q 9 2 11 _ _ refl (stands-is q 9 wordS (not-false _ word))
-    (cut q 11 40 51 _ _ refl (sym (hex-unhex (part q 11 40) 20 n u))
+    let body : drop 9 q ≡ successMessage (part q 11 40) (drop 54 q) =
+    cut q 9 2 11 _ _ refl (stands-is q 9 wordS (not-false _ s=))
+    (cut q 11 40 51 _ _ refl refl
     (cut q 51 3 54 _ _ refl m refl)) in
     record {
       least = part-inside q 51 3 (ap length m) (omega arith);
       upper = u;
+      string = hex-unhex (part q 11 40) 20 (hex-stands-long false q 11 40 (not-false _ hex)) u;
       reads = sym (ap (λ (t : Told Packet). t .value) e4);
       is = λ o. chap-is q 1 3 h (not-false _ ok) o ∙ ap (chapPacket 1 3 (getD q 1 0) (getD q 6 0)) body;
     }))))

@@ -1,10 +1,11 @@
 -- How long each packet is.
 use Prim.Native.Nat.{ℕ, _+_, _≤_}
-use mathlib.Core.Path.{_≡_, sym}
+use mathlib.Core.Path.{_≡_, sym, _∙_}
 use mathlib.Core.List.{List, [], _∷_, _++_}
 use native.Mathlib.Omega.{arith}
 use lib.ListN.{length, length-append}
-use Rattle.octets.specs.Octets.{decimal}
+use Rattle.octets.specs.Lists.{cells}
+use Rattle.octets.specs.Octets.{hexAt, decimal}
 use Rattle.octets.proofs.Lists.{length-cells}
 use Rattle.octets.proofs.Decimals.{length-decimal-3}
 use Rattle.packet.specs.Forms.{successMessage, failureMessage, header, chapPacket, challengePacket, responsePacket, successRequest, failureRequest}
@@ -22,16 +23,23 @@ unfolding responsePacket
 length-responsePacket id chapid peer response name e f =
     simp (length-chapPacket, length-append) (omega arith)
 
+pub length-success : (id chapid : ℕ) (s text : List ℕ) → length s ≡ 40 → length (chapPacket 1 3 id chapid (successMessage s text)) ≡ 54 + length text
+unfolding successMessage
+length-success id chapid s text e = simp (length-chapPacket, length-append) (omega arith)
+
 pub length-successRequest : (id chapid : ℕ) (string text : List ℕ) → length (successRequest id chapid string text) ≡ 54 + length text
-unfolding successRequest successMessage
-length-successRequest id chapid string text =
-    simp (length-chapPacket, length-append, length-cells) (omega arith)
+unfolding successRequest
+length-successRequest id chapid string text = length-success id chapid (cells 40 (hexAt string)) text (length-cells 40 (hexAt string))
+
+pub length-failure : (id chapid : ℕ) (e : List ℕ) (r : ℕ) (c v text : List ℕ) → length c ≡ 32 → length (chapPacket 1 4 id chapid (failureMessage e r c v text)) ≡ 56 + length e + length v + length text
+unfolding failureMessage
+length-failure id chapid e r c v text h = simp (length-chapPacket, length-append) (omega arith)
 
 -- the code has d digits
 pub length-failureRequest : (id chapid code retry d : ℕ) (challenge text : List ℕ) → d ≡ length (decimal code) → length (failureRequest id chapid code retry challenge text) ≡ 57 + d + length text
-unfolding failureRequest failureMessage
+unfolding failureRequest
 length-failureRequest id chapid code retry d challenge text e =
-    simp (length-chapPacket, length-append, length-cells) (omega arith)
+    length-failure id chapid (decimal code) (48 + retry) (cells 32 (hexAt challenge)) (51 ∷ []) text (length-cells 32 (hexAt challenge)) ∙ omega arith
 
 -- the one that the server writes
 pub length-failureRequest-60 : (id chapid code retry : ℕ) (challenge : List ℕ) → 100 ≤ code → code ≤ 999 → length (failureRequest id chapid code retry challenge []) ≡ 60

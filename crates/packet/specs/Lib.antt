@@ -1,2 +1,4 @@
 pub mod Forms
+pub mod Formed
 pub mod Reader
+pub mod Order

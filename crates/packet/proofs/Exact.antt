@@ -1,0 +1,70 @@
+-- The reader takes exactly the packets of the table, up to 1,020 octets.
+use Prim.Native.Nat.{ℕ, _+_, _≤_}
+use mathlib.Core.Path.{_≡_, sym, subst}
+use mathlib.Core.List.{List, _++_}
+use native.Mathlib.Omega.{arith}
+use lib.ListN.{length, take, drop, length-take, length-drop, List·getD-eq-default}
+use lib.Seq.{getD-take}
+use Rattle.octets.specs.Lists.{part}
+use Rattle.octets.specs.Octets.{AreOctets}
+use Rattle.octets.proofs.Exits.{below}
+use Rattle.octets.proofs.Parts.{length-part}
+use Rattle.answer.specs.Outcome.{gives}
+use Rattle.packet.specs.declared.End.{End}
+use Rattle.packet.specs.declared.End.the-variants.{Peer, Server}
+use Rattle.packet.specs.declared.Kind.{Kind}
+use Rattle.packet.specs.declared.Kind.the-variants.{Challenge, Response, SuccessRequest, FailureRequest, RetryRequest, SuccessResponse, FailureResponse, EapSuccess, EapFailure}
+use Rattle.packet.specs.declared.Packet.{Packet}
+use Rattle.packet.specs.Formed.{Formed, a-challenge, a-response, a-success-request, a-failure-request, a-success-response, a-failure-response, an-eap-success, an-eap-failure}
+use Rattle.packet.specs.Reader.{readPacket}
+use Rattle.packet.proofs.Sizes.{length-challengePacket, length-success, length-failure}
+use Rattle.packet.proofs.Back.{challenge-back, response-back, success-back, failure-back, success-response-back, failure-response-back, eap-success-back, eap-failure-back}
+use Rattle.packet.proofs.Readings.{tells, Shape, endOf}
+
+-- a packet of the table is read, whatever follows it
+pub record Taken (end : End) (q : List ℕ) : Type 0 where
+  pub reading : Packet
+  pub reads : (pad : List ℕ) → readPacket end (q ++ pad) ≡ gives reading
+
+pub formed-reads : (end : End) (q : List ℕ) → Formed end q → length q ≤ 1020 → Taken end q
+formed-reads Peer _ (a-challenge id chapid c name n s) h =
+    record { reading = _; reads = challenge-back id chapid c name n s (omega (arith, length-challengePacket id chapid c name n)) .reads }
+formed-reads Server _ (a-response id chapid p r name n m s) h = record { reading = _; reads = response-back id chapid p r name n m s .reads }
+formed-reads Peer _ (a-success-request id chapid s text n u) h =
+    record { reading = _; reads = success-back id chapid s text n u (omega (arith, length-success id chapid s text n)) .reads }
+formed-reads Peer _ (a-failure-request id chapid e retry c v text f) h =
+    record { reading = _; reads = failure-back id chapid e retry c v text f (omega (arith, length-failure id chapid e (48 + retry) c v text (f .c-size))) .reads }
+formed-reads Server _ (a-success-response id) h = record { reading = _; reads = success-response-back id .reads }
+formed-reads Server _ (a-failure-response id) h = record { reading = _; reads = failure-response-back id .reads }
+formed-reads Peer _ (an-eap-success id) h = record { reading = _; reads = eap-success-back id .reads }
+formed-reads Peer _ (an-eap-failure id) h = record { reading = _; reads = eap-failure-back id .reads }
+
+-- and what is read is one
+cut-octets : (p : List ℕ) (l : ℕ) → AreOctets p → AreOctets (take l p)
+cut-octets p l o k =
+    below k (length (take l p))
+    (λ h. rw (getD-take l p k 0 (omega (arith, length-take l p))) (o k))
+    (λ h. rw (List·getD-eq-default (take l p) 0 h) (omega arith))
+
+shape-formed : (k : Kind) (q : List ℕ) (x : Packet) → AreOctets q → Shape k q x → Formed (endOf k) q
+shape-formed Challenge q x o s =
+    let l = s .least in
+    subst (Formed Peer) (sym (s .is o)) (a-challenge _ _ (part q 10 16) (drop 26 q) (length-part q 10 16 (omega arith)) (omega (arith, length-drop 26 q)))
+shape-formed Response q x o s =
+    let l = s .least in
+    let m = s .most in
+    subst (Formed Server) (sym (s .is o)) (a-response _ _ (part q 10 16) (part q 34 24) (drop 59 q) (length-part q 10 16 (omega arith)) (length-part q 34 24 (omega arith)) (omega (arith, length-drop 59 q)))
+shape-formed SuccessRequest q x o s =
+    let l = s .least in
+    subst (Formed Peer) (sym (s .is o)) (a-success-request _ _ (part q 11 40) (drop 54 q) (length-part q 11 40 (omega arith)) (s .upper))
+shape-formed FailureRequest q x o s = subst (Formed Peer) (sym (s .is o)) (a-failure-request _ _ _ (s .retry) _ _ _ (s .spelling))
+shape-formed RetryRequest q x o s = subst (Formed Peer) (sym (s .is o)) (a-failure-request _ _ _ (s .retry) _ _ _ (s .spelling))
+shape-formed SuccessResponse q x o s = subst (Formed Server) (sym (s .is)) (a-success-response _)
+shape-formed FailureResponse q x o s = subst (Formed Server) (sym (s .is)) (a-failure-response _)
+shape-formed EapSuccess q x o s = subst (Formed Peer) (sym (s .is)) (an-eap-success _)
+shape-formed EapFailure q x o s = subst (Formed Peer) (sym (s .is)) (an-eap-failure _)
+
+pub reads-formed : (end : End) (p : List ℕ) (x : Packet) → AreOctets p → readPacket end p ≡ gives x → Formed end (take (x .length) p)
+reads-formed end p x o e =
+    let t = tells end p x e in
+    subst (λ (z : End). Formed z (take (x .length) p)) (t .here) (shape-formed (x .kind) (take (x .length) p) x (cut-octets p (x .length) o) (t .shape))
