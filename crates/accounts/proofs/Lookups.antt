@@ -182,6 +182,16 @@ module _ (t user : List ℕ) (code hash : ℕ) (w : wellFormed t ≡ true) (f : 
       ∙ ap (take 16) (drop-append-add (flatten (f .before)) (f .account ++ flatten (f .after)) 6 ∙ drop-append-le 6 (f .account) (flatten (f .after)) six)
       ∙ take-append-le 16 (drop 6 (f .account)) (flatten (f .after)) sixteen
 
+  -- the user has no more octets than a name
+  pub first-short : length user ≤ 256
+  first-short =
+      let m = good .most in
+      omega (arith, ap length (f .here .name), length-drop 22 (f .account))
+
 pub account-lies : (t user : List ℕ) (code hash : ℕ) → wellFormed t ≡ true → accountOf t user ≡ Account code hash → Lies t code hash
 unfolding accountOf entries
 account-lies t user code hash w e = first-lies t user code hash w (account-first user 0 (records t) code hash e)
+
+pub account-short : (t user : List ℕ) (code hash : ℕ) → wellFormed t ≡ true → accountOf t user ≡ Account code hash → length user ≤ 256
+unfolding accountOf entries
+account-short t user code hash w e = first-short t user code hash w (account-first user 0 (records t) code hash e)

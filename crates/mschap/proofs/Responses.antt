@@ -1,14 +1,14 @@
 -- What callers know of the arithmetic: the length of each result, and what is given for users of at most 256 octets.
-use Prim.Native.Nat.{ℕ, _≤_}
+use Prim.Native.Nat.{ℕ, _≤_, _<_}
 use mathlib.Core.Path.{_≡_, refl, sym, ap, _∙_}
 use mathlib.Core.List.{List, _++_}
 use native.Mathlib.Omega.{arith}
-use lib.ListN.{length}
+use lib.ListN.{length, getD}
 use lib.Seq.{length-take-le}
 use Rattle.octets.proofs.Lists.{length-cells}
 use Rattle.answer.specs.Outcome.{Told, gives}
 use Rattle.digest.specs.Sha1.{sha1Of}
-use Rattle.digest.proofs.Digests.{length-md4, length-sha1}
+use Rattle.digest.proofs.Digests.{length-md4, length-sha1, sha1-octet}
 use Rattle.mschap.specs.Users.{userStart, userOf}
 use Rattle.mschap.specs.Responses.{passwordHash, challengeHash, blockOf, ntResponse, magic, padding, authenticatorOf, digitsOf}
 use Rattle.mschap.specs.Answers.{Place, passwordHashTold, userTold, challengeHashTold, ntResponseTold, authenticatorTold, toldPasswordHash, toldUser, toldChallengeHash, toldNtResponse, toldAuthenticator}
@@ -38,6 +38,11 @@ length-nt-response authenticator peer user hash =
 pub length-authenticator : (hash response peer authenticator user : List ℕ) → length (authenticatorOf hash response peer authenticator user) ≡ 20
 unfolding authenticatorOf
 length-authenticator hash response peer authenticator user = length-sha1 _
+
+-- the authenticator string consists of octets
+pub authenticator-octet : (hash response peer authenticator user : List ℕ) (k : ℕ) → getD (authenticatorOf hash response peer authenticator user) k 0 < 256
+unfolding authenticatorOf
+authenticator-octet hash response peer authenticator user k = sha1-octet _ k
 
 pub length-digits : (string : List ℕ) → length (digitsOf string) ≡ 40
 unfolding digitsOf

@@ -8,7 +8,7 @@ ghost use lib.ListN.{length, take};
 ghost use Rattle.octets.specs.Lists.{cells, over};
 ghost use Rattle.digest.specs.Md4.{md4Of};
 ghost use Rattle.digest.specs.Sha1.{sha1Of};
-ghost use Rattle.mschap.specs.Users.{userStart};
+ghost use Rattle.mschap.specs.Users.{userStart, userOf};
 ghost use Rattle.mschap.specs.Responses.{halfOf, unitOctet, passwordHash, challengeHash, keyPart, blockOf, ntResponse, magic, padding, authenticatorOf, digitsOf};
 ghost use Rattle.mschap.specs.Answers.{passwordHashTold, userTold, challengeHashTold, ntResponseTold, authenticatorTold, toldPasswordHash, toldUser, toldChallengeHash, toldNtResponse, toldAuthenticator};
 
@@ -143,6 +143,14 @@ fn user_start(name: &[u8]) -> usize
         i += 1;
     }
     0
+}
+
+// The user's octets, of a name of any length.
+pub fn user_part(name: &[u8]) -> &[u8]
+    ensures { λ r. ⌜ now r ≡ userOf (now (name .entry)) ⌝ }
+{
+    let start = user_start(name);
+    octets::rest(name, start)
 }
 
 // The user is what stands after the name's first backslash, or all of it; 23 for a name of more than 256 octets.

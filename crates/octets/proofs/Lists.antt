@@ -6,12 +6,12 @@ use native.Mathlib.Omega.{arith}
 use mathlib.Core.Logic.{⊎-elim}
 use mathlib.Core.Path.{_≡_, refl, sym, ap, _∙_}
 use mathlib.Core.List.{List, [], _∷_, _++_, append-assoc, append-nil}
-use lib.ListN.{length, take, drop, getD, replicate, length-append, length-drop, drop-of-length-le, List·getD-append}
-use lib.Seq.{length-take-le, getD-take, take-append-seam, drop-append-add, drop-drop, getD-at, ext-getD}
+use lib.ListN.{length, take, drop, getD, replicate, length-append, length-drop, length-replicate, getD-replicate, drop-of-length-le, List·getD-append, List·getD-eq-default}
+use lib.Seq.{length-take-le, getD-take, take-append-seam, drop-append-add, drop-drop, getD-append-add, getD-drop, getD-at, ext-getD}
 use borrow.Author.Tests.{le-leb}
 use Rattle.octets.specs.Choice.{pick}
 use Rattle.octets.specs.Lists.{cells, sized, over, pasted, put}
-use Rattle.octets.proofs.Exits.{pick-true}
+use Rattle.octets.proofs.Exits.{below, pick-true}
 
 pub length-cells : (n : ℕ) (f : ℕ → ℕ) → length (cells n f) ≡ n
 unfolding cells
@@ -64,6 +64,33 @@ sized-append n s t e =
 
 pub sized-own : (n : ℕ) (s : List ℕ) → length s ≡ n → sized n s ≡ s
 sized-own n s e = ap (sized n) (sym (append-nil s)) ∙ sized-append n s [] e
+
+-- octets over zeros: the octets, and zeros after them
+pub over-zeros : (n : ℕ) (s : List ℕ) → length s ≤ n → over s (replicate n 0) ≡ sized n s
+over-zeros n s h = ext-getD 0 (over s (replicate n 0)) (sized n s) (all ∙ sym (length-sized n s)) at
+  where
+    all : length (over s (replicate n 0)) ≡ n
+    all = simp (length-append, length-drop, length-replicate) (omega arith)
+
+    past : (i : ℕ) → i < n → length s ≤ i → getD (over s (replicate n 0)) i 0 ≡ 0
+    past i k l =
+        let e : i ≡ length s + (i - length s) = omega arith in
+        let m : length s + (i - length s) < n = omega arith in
+        ap (λ (j : ℕ). getD (over s (replicate n 0)) j 0) e
+        ∙ getD-append-add s (drop (length s) (replicate n 0)) (i - length s) 0
+        ∙ getD-drop (length s) (replicate n 0) (i - length s) 0
+        ∙ getD-replicate n (length s + (i - length s)) 0 0 m
+
+    at : (i : ℕ) → i < length (over s (replicate n 0)) → getD (over s (replicate n 0)) i 0 ≡ getD (sized n s) i 0
+    at i k =
+        let k′ : i < n = rw all at k in
+        below i (length s)
+        (λ l. List·getD-append s (drop (length s) (replicate n 0)) 0 i l ∙ sym (getD-sized n s i k′))
+        (λ l. past i k′ l ∙ sym (List·getD-eq-default s 0 l) ∙ sym (getD-sized n s i k′))
+
+-- the front of a padded list is the list
+pub take-sized : (n : ℕ) (s : List ℕ) → length s ≤ n → take (length s) (sized n s) ≡ s
+take-sized n s h = rw (← over-zeros n s h) (take-append-seam s (drop (length s) (replicate n 0)))
 
 pub put-fits : (d s : List ℕ) (i : ℕ) → i + length s ≤ length d → put d i s ≡ take i d ++ s ++ drop (i + length s) d
 unfolding put pasted
