@@ -1,0 +1,13 @@
+use Rattle.verdict.specs.Verdict.{judgeOf}
+use borrow.Author.Needs.{needs}
+use Rattle.verdict.proofs.judge.Statement.{statement}
+use Rattle.verdict.proofs.judge.Tie as tie
+
+pub judge-spec : {M : Type 1} → statement M
+unfolding judgeOf
+judge-spec =
+    tie.close
+    (tie.spec
+    (λ c κs. search needs)
+    (λ c κs. search needs)
+    (λ c. cc))

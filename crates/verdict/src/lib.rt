@@ -1,0 +1,157 @@
+// The verdict on a Response: the only code that looks into the account table.
+ghost use mathlib.Core.Path.{_≡_};
+ghost use mathlib.Core.Bool.{true};
+ghost use Prim.Native.Nat.{_+_, _≤_};
+ghost use lib.ListN.{length};
+ghost use Rattle.octets.specs.Octets.{same};
+ghost use Rattle.mschap.specs.Responses.{ntResponse, authenticatorOf};
+ghost use Rattle.verdict.specs.Verdict.{hashAt, weighedAs, judgeUser, judgeOf};
+use accounts::Found;
+
+// Malformed is the mark of a table, Wrong and Right are marks of a Response.
+pub enum Mark {
+    Malformed,
+    Wrong,
+    Right,
+}
+
+// Where the mark is Right, the account's code and the authenticator string's octets, and else zeros.
+pub struct Verdict {
+    pub mark: Mark,
+    pub code: u16,
+    pub string: [u8; 20],
+}
+
+const MALFORMED: Verdict = Verdict {
+    mark: Mark::Malformed,
+    code: 0,
+    string: [0; 20],
+};
+
+const WRONG: Verdict = Verdict {
+    mark: Mark::Wrong,
+    code: 0,
+    string: [0; 20],
+};
+
+// Whether the NT-Response is the one computed from a hash. All its octets are compared.
+fn is_computed(
+    challenge: [u8; 16],
+    peer: [u8; 16],
+    response: [u8; 24],
+    user: &[u8],
+    hash: [u8; 16],
+) -> bool
+    ensures { λ r. ⌜ (length (now (user .entry)) ≤ 256 → r ≡ same (ntResponse challenge peer (now (user .entry)) hash) response) ⌝ }
+{
+    let own = mschap::nt_response(challenge, peer, user, hash);
+    let octets = own.octets;
+    octets::equal(&octets, &response)
+}
+
+// The authenticator string's octets.
+fn string_of(
+    hash: [u8; 16],
+    challenge: [u8; 16],
+    peer: [u8; 16],
+    response: [u8; 24],
+    user: &[u8],
+) -> [u8; 20]
+    requires { ⌜ length (now user) ≤ 256 ⌝ }
+    ensures { λ r. ⌜ r ≡ authenticatorOf hash response peer challenge (now (user .entry)) ⌝ }
+{
+    let made = mschap::authenticator_string(hash, response, peer, challenge, user);
+    made.octets
+}
+
+// An NT-Response is computed in any case: from sixteen zeros where there is no account.
+fn weigh(
+    known: bool,
+    code: u16,
+    hash: [u8; 16],
+    challenge: [u8; 16],
+    peer: [u8; 16],
+    response: [u8; 24],
+    user: &[u8],
+) -> Verdict
+    requires { ⌜ (known ≡ true → length (now user) ≤ 256) ⌝ }
+    ensures { λ r. ⌜ r ≡ weighedAs known code hash challenge peer response (now (user .entry)) ⌝ }
+{
+    let computed = is_computed(challenge, peer, response, user, hash);
+    if !known {
+        return WRONG;
+    }
+    if !computed {
+        return WRONG;
+    }
+    let string = string_of(hash, challenge, peer, response, user);
+    Verdict {
+        mark: Mark::Right,
+        code,
+        string,
+    }
+}
+
+// The hash at a place.
+fn hash_at(table: &[u8], place: usize) -> [u8; 16]
+    requires { ⌜ place + 16 ≤ length (now table) ⌝ }
+    ensures { λ r. ⌜ r ≡ hashAt (now (table .entry)) place ⌝ }
+{
+    packet::sixteen_at(table, place)
+}
+
+fn weigh_account(
+    code: u16,
+    place: usize,
+    challenge: [u8; 16],
+    peer: [u8; 16],
+    response: [u8; 24],
+    user: &[u8],
+    table: &[u8],
+) -> Verdict
+    requires { ⌜ (length (now user) ≤ 256) × (place + 16 ≤ length (now table)) ⌝ }
+    ensures { λ r. ⌜ r ≡ weighedAs true code (hashAt (now (table .entry)) place) challenge peer response (now (user .entry)) ⌝ }
+{
+    let hash = hash_at(table, place);
+    weigh(true, code, hash, challenge, peer, response, user)
+}
+
+fn judge_user(
+    challenge: [u8; 16],
+    peer: [u8; 16],
+    response: [u8; 24],
+    user: &[u8],
+    table: &[u8],
+) -> Verdict
+    ensures { λ r. ⌜ r ≡ judgeUser challenge peer response (now (user .entry)) (now (table .entry)) ⌝ }
+{
+    let found = accounts::find(table, user);
+    match found {
+        Found::Malformed => MALFORMED,
+        Found::BadUser => weigh(false, 0, [0u8; 16], challenge, peer, response, user),
+        Found::Absent => weigh(false, 0, [0u8; 16], challenge, peer, response, user),
+        Found::Account { code, hash } => weigh_account(
+            code,
+            hash,
+            challenge,
+            peer,
+            response,
+            user,
+            table,
+        ),
+    }
+}
+
+// A Response's peer challenge, NT-Response and name, to the outstanding challenge.
+pub fn judge(
+    challenge: [u8; 16],
+    peer: [u8; 16],
+    response: [u8; 24],
+    name: &[u8],
+    table: &[u8],
+) -> Verdict
+    ensures { λ r. ⌜ r ≡ judgeOf challenge peer response (now (name .entry)) (now (table .entry)) ⌝ }
+{
+    let user = mschap::user_part(name);
+    judge_user(challenge, peer, response, user, table)
+}
