@@ -1,0 +1,9 @@
+pub mod Laws
+pub mod WrongGuess
+pub mod Teeth
+pub mod Remarks
+pub mod Turns
+pub mod Effects
+pub mod Promises
+pub mod Forward
+pub mod Failing

@@ -1,0 +1,12 @@
+use Rattle.server.proofs.Laws.{whole-written}
+use borrow.Author.Needs.{needs}
+use Rattle.server.proofs.eap_success.Statement.{statement}
+use Rattle.server.proofs.eap_success.Tie as tie
+
+pub eap-success-spec : {M : Type 1} → statement M
+eap-success-spec =
+    tie.close
+    (tie.spec
+    (λ c. search needs)
+    (λ c κs. search needs)
+    (λ c. search (needs, whole-written)))

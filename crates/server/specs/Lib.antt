@@ -1,0 +1,5 @@
+pub mod State
+pub mod Moves
+pub mod Calls
+pub mod Guess
+pub mod Effects
