@@ -6,11 +6,12 @@ use mathlib.Core.Bool.{true, false}
 use native.Mathlib.Omega.{arith}
 use lib.ListN.{length, take, drop, set, length-set, length-append, length-drop, drop-of-length-le}
 use lib.Seq.{drop-cons, drop-set-lt, getD-set-same}
-use borrow.Author.Tests.{lt-ltb, le-ltb}
+use lib.Dec.{ltb}
+use borrow.Author.Tests.{ltb-true, ltb-false, lt-ltb, le-ltb}
 use borrow.Author.Needs.{needs}
 use Rattle.octets.specs.Choice.{pick}
 use Rattle.octets.specs.Octets.{decimals, decimal, DigitsFrom, digits, digitValue, numberFrom, number, isDigit}
-use Rattle.octets.proofs.Exits.{pick-true, pick-false, below, tested}
+use Rattle.octets.proofs.Exits.{pick-true, pick-false, below, tested, unless}
 use Rattle.octets.proofs.Scans.{ten}
 
 -- the digits of n are those of m, and then digits from i on
@@ -159,3 +160,37 @@ pub length-decimal-3 : (n : ℕ) → 100 ≤ n → n ≤ 999 → length (decimal
 unfolding decimal
 length-decimal-3 n h k =
     rw (more-digits 9 n (omega arith), more-digits 8 (n / 10) (omega arith), one-digit 7 (n / 10 / 10) (omega arith))
+
+-- ---- as many digits with the same number are the same digits
+all-digits : (x : ℕ) (xs : List ℕ) → digits (x ∷ xs) ≡ length (x ∷ xs) → (isDigit x ≡ true) × (digits xs ≡ length xs)
+unfolding digits pick
+all-digits x xs h =
+    tested (isDigit x)
+    (λ t. let z : suc (digits xs) ≡ suc (length xs) = rw t at h in (t, omega arith))
+    (λ t. let z : 0 ≡ suc (length xs) = rw t at h in absurd (omega arith))
+
+digit-range : (x : ℕ) → isDigit x ≡ true → (48 ≤ x) × (x < 58)
+unfolding isDigit
+digit-range x e =
+    let u = unless (ltb x 48) (ltb x 58) e in
+    (ltb-false x 48 (u .0), ltb-true x 58 (u .1))
+
+pub same-digits : (s t : List ℕ) (a b : ℕ) → digits s ≡ length s → digits t ≡ length t → length s ≡ length t → numberFrom a s ≡ numberFrom b t → (a ≡ b) × (s ≡ t)
+unfolding numberFrom
+same-digits [] [] a b h k l e = (e, refl)
+same-digits [] (y ∷ ys) a b h k l e = absurd (omega arith)
+same-digits (x ∷ xs) [] a b h k l e = absurd (omega arith)
+same-digits (x ∷ xs) (y ∷ ys) a b h k l e =
+    let dx = all-digits x xs h in
+    let dy = all-digits y ys k in
+    let rx = digit-range x (dx .0) in
+    let ry = digit-range y (dy .0) in
+    let r = same-digits xs ys (a * 10 + digitValue x) (b * 10 + digitValue y) (dx .1) (dy .1) (omega arith) e in
+    let p : x ≡ y = omega arith in
+    (omega arith, (λ j. p j ∷ r .1 j))
+
+pub number-apart : (s t : List ℕ) → digits s ≡ length s → digits t ≡ length t → length s ≡ length t → length s ≤ 10 → number s ≡ number t → s ≡ t
+unfolding number
+number-apart s t h k l f e =
+    let g : length t ≤ 10 = omega arith in
+    same-digits s t 0 0 h k l (sym (pick-false _ _ _ (le-ltb _ _ f)) ∙ e ∙ pick-false _ _ _ (le-ltb _ _ g)) .1

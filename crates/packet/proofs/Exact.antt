@@ -40,7 +40,7 @@ formed-reads Peer _ (an-eap-success id) h = record { reading = _; reads = eap-su
 formed-reads Peer _ (an-eap-failure id) h = record { reading = _; reads = eap-failure-back id .reads }
 
 -- and what is read is one
-cut-octets : (p : List ℕ) (l : ℕ) → AreOctets p → AreOctets (take l p)
+pub cut-octets : (p : List ℕ) (l : ℕ) → AreOctets p → AreOctets (take l p)
 cut-octets p l o k =
     below k (length (take l p))
     (λ h. rw (getD-take l p k 0 (omega (arith, length-take l p))) (o k))

@@ -4,3 +4,4 @@ pub mod Shapes
 pub mod Readings
 pub mod Order
 pub mod Exact
+pub mod Alike

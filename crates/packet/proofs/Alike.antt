@@ -1,0 +1,132 @@
+-- Two packets that read alike, with the same octets at the reading's places, are the same octets up to L.
+use Prim.Native.Nat.{ℕ, _+_, _≤_, _<_}
+use mathlib.Core.Path.{_≡_, sym, ap, _∙_}
+use mathlib.Core.List.{List}
+use native.Mathlib.Omega.{arith}
+use lib.ListN.{length, take, drop}
+use lib.Seq.{take-length}
+use borrow.Author.Tests.{eq-eqb, ne-eqb}
+use Rattle.octets.specs.Lists.{part}
+use Rattle.octets.specs.Octets.{AreOctets}
+use Rattle.octets.proofs.Exits.{pick-true, pick-false, below}
+use Rattle.octets.proofs.Parts.{length-part}
+use Rattle.octets.proofs.Decimals.{number-apart}
+use Rattle.answer.specs.Outcome.{gives}
+use Rattle.packet.specs.declared.End.{End}
+use Rattle.packet.specs.declared.Kind.{Kind}
+use Rattle.packet.specs.declared.Kind.the-variants.{Challenge, Response, SuccessRequest, FailureRequest, RetryRequest, SuccessResponse, FailureResponse, EapSuccess, EapFailure}
+use Rattle.packet.specs.declared.Packet.{Packet}
+use Rattle.packet.specs.Forms.{successMessage, failureMessage, chapPacket, challengePacket, responsePacket, successResponse, failureResponse, eapSuccess, eapFailure}
+use Rattle.packet.specs.Reader.{at, failureOf, readPacket}
+use Rattle.packet.proofs.Shapes.{ChallengeShape, ResponseShape, SuccessShape, FailureShape}
+use Rattle.packet.proofs.Readings.{tells, Shape}
+use Rattle.packet.proofs.Exact.{cut-octets}
+
+pub record SameAt (p p′ : List ℕ) (x : Packet) : Type 0 where
+  pub challenge : at p (x .challenge) ≡ at p′ (x .challenge)
+  pub response : at p (x .response) ≡ at p′ (x .response)
+  pub tail : at p (x .tail) ≡ at p′ (x .tail)
+
+-- ---- what two readings x of q and q′ have in common
+module _ (q q′ : List ℕ) (x y y′ : Packet) (r : x ≡ y) (r′ : x ≡ y′) (same : SameAt q q′ x) where
+  alike : y ≡ y′
+  alike = sym r ∙ r′
+
+  same-id : y .id .0 ≡ y′ .id .0
+  same-id = ap (λ (z : Packet). z .id .0) alike
+
+  same-chapid : y .chapid .0 ≡ y′ .chapid .0
+  same-chapid = ap (λ (z : Packet). z .chapid .0) alike
+
+  same-challenge : at q (y .challenge) ≡ at q′ (y′ .challenge)
+  same-challenge = ap (λ (z : Packet). at q (z .challenge)) (sym r) ∙ same .challenge ∙ ap (λ (z : Packet). at q′ (z .challenge)) r′
+
+  same-response : at q (y .response) ≡ at q′ (y′ .response)
+  same-response = ap (λ (z : Packet). at q (z .response)) (sym r) ∙ same .response ∙ ap (λ (z : Packet). at q′ (z .response)) r′
+
+  same-tail : at q (y .tail) ≡ at q′ (y′ .tail)
+  same-tail = ap (λ (z : Packet). at q (z .tail)) (sym r) ∙ same .tail ∙ ap (λ (z : Packet). at q′ (z .tail)) r′
+
+-- R tells the two kinds apart
+no-retry : (r : ℕ) → r < 1 → failureOf r ≡ FailureRequest
+unfolding failureOf
+no-retry r h = pick-false _ _ _ (ne-eqb r 1 (omega arith))
+
+a-retry : (r : ℕ) → r ≤ 1 → 1 ≤ r → failureOf r ≡ RetryRequest
+unfolding failureOf
+a-retry r h k = pick-true _ _ _ (eq-eqb r 1 (omega arith))
+
+two-kinds : {A : Type 0} → FailureRequest ≡ RetryRequest → A
+two-kinds e = let z : _≡_ {A = ℕ} 0 1 = cc in absurd (omega arith)
+
+retry-apart : (r r′ : ℕ) → r ≤ 1 → r′ ≤ 1 → failureOf r ≡ failureOf r′ → r ≡ r′
+retry-apart r r′ h h′ e =
+    below r 1
+    (λ a. below r′ 1 (λ b. omega arith) (λ b. two-kinds (sym (no-retry r a) ∙ e ∙ a-retry r′ h′ b)))
+    (λ a. below r′ 1 (λ b. two-kinds (sym (sym (a-retry r h a) ∙ e ∙ no-retry r′ b))) (λ b. omega arith))
+
+module _ (q q′ : List ℕ) (x : Packet) (o : AreOctets q) (o′ : AreOctets q′) (same : SameAt q q′ x) where
+  challenges : ChallengeShape q x → ChallengeShape q′ x → q ≡ q′
+  challenges s s′ =
+      let i = same-id q q′ x _ _ (s .reads) (s′ .reads) same in
+      let c = same-chapid q q′ x _ _ (s .reads) (s′ .reads) same in
+      let a = same-challenge q q′ x _ _ (s .reads) (s′ .reads) same in
+      let t : drop 26 q ≡ drop 26 q′ = sym (take-length (drop 26 q)) ∙ same-tail q q′ x _ _ (s .reads) (s′ .reads) same ∙ take-length (drop 26 q′) in
+      s .is o ∙ (λ j. challengePacket (i j) (c j) (a j) (t j)) ∙ sym (s′ .is o′)
+
+  responses : ResponseShape q x → ResponseShape q′ x → q ≡ q′
+  responses s s′ =
+      let i = same-id q q′ x _ _ (s .reads) (s′ .reads) same in
+      let c = same-chapid q q′ x _ _ (s .reads) (s′ .reads) same in
+      let a = same-challenge q q′ x _ _ (s .reads) (s′ .reads) same in
+      let b = same-response q q′ x _ _ (s .reads) (s′ .reads) same in
+      let t : drop 59 q ≡ drop 59 q′ = sym (take-length (drop 59 q)) ∙ same-tail q q′ x _ _ (s .reads) (s′ .reads) same ∙ take-length (drop 59 q′) in
+      s .is o ∙ (λ j. responsePacket (i j) (c j) (a j) (b j) (t j)) ∙ sym (s′ .is o′)
+
+  successes : SuccessShape q x → SuccessShape q′ x → q ≡ q′
+  successes s s′ =
+      let i = same-id q q′ x _ _ (s .reads) (s′ .reads) same in
+      let c = same-chapid q q′ x _ _ (s .reads) (s′ .reads) same in
+      let b = same-response q q′ x _ _ (s .reads) (s′ .reads) same in
+      let t : drop 54 q ≡ drop 54 q′ = sym (take-length (drop 54 q)) ∙ same-tail q q′ x _ _ (s .reads) (s′ .reads) same ∙ take-length (drop 54 q′) in
+      s .is o ∙ (λ j. chapPacket 1 3 (i j) (c j) (successMessage (b j) (t j))) ∙ sym (s′ .is o′)
+
+  -- where C and the text stand tells how many digits E and V have, so that their numbers tell the digits
+  failures : FailureShape q x → FailureShape q′ x → q ≡ q′
+  failures s s′ =
+      let y = alike q q′ x _ _ (s .reads) (s′ .reads) same in
+      let i = same-id q q′ x _ _ (s .reads) (s′ .reads) same in
+      let c = same-chapid q q′ x _ _ (s .reads) (s′ .reads) same in
+      let d = same-challenge q q′ x _ _ (s .reads) (s′ .reads) same in
+      let k = ap (λ (z : Packet). z .kind) y in
+      let n = ap (λ (z : Packet). z .code) y in
+      let at-c : 18 + s .a ≡ 18 + s′ .a = ap (λ (z : Packet). z .challenge .start) y in
+      let at-t : 56 + s .a + s .b ≡ 56 + s′ .a + s′ .b = ap (λ (z : Packet). z .tail .start) y in
+      let f = s .spelling in
+      let f′ = s′ .spelling in
+      let r : s .retry ≡ s′ .retry = retry-apart (s .retry) (s′ .retry) (f .bit) (f′ .bit) k in
+      let l = s .least in
+      let l′ = s′ .least in
+      let ea : length (part q 11 (s .a)) ≡ s .a = length-part q 11 (s .a) (omega arith) in
+      let ea′ : length (part q′ 11 (s′ .a)) ≡ s′ .a = length-part q′ 11 (s′ .a) (omega arith) in
+      let vb : length (part q (53 + s .a) (s .b)) ≡ s .b = length-part q (53 + s .a) (s .b) (omega arith) in
+      let vb′ : length (part q′ (53 + s′ .a) (s′ .b)) ≡ s′ .b = length-part q′ (53 + s′ .a) (s′ .b) (omega arith) in
+      let e = number-apart (part q 11 (s .a)) (part q′ 11 (s′ .a)) (f .e-digits) (f′ .e-digits) (omega arith) (f .e-few) n in
+      let v = number-apart (part q (53 + s .a) (s .b)) (part q′ (53 + s′ .a) (s′ .b)) (f .v-digits) (f′ .v-digits) (omega arith) (f .v-few) (f .v-three ∙ sym (f′ .v-three)) in
+      let t : drop (56 + s .a + s .b) q ≡ drop (56 + s′ .a + s′ .b) q′ = sym (take-length (drop (56 + s .a + s .b) q)) ∙ same-tail q q′ x _ _ (s .reads) (s′ .reads) same ∙ take-length (drop (56 + s′ .a + s′ .b) q′) in
+      s .is o ∙ (λ j. chapPacket 1 4 (i j) (c j) (failureMessage (e j) (48 + r j) (d j) (v j) (t j))) ∙ sym (s′ .is o′)
+
+  shapes : (k : Kind) → Shape k q x → Shape k q′ x → q ≡ q′
+  shapes Challenge s s′ = challenges s s′
+  shapes Response s s′ = responses s s′
+  shapes SuccessRequest s s′ = successes s s′
+  shapes FailureRequest s s′ = failures s s′
+  shapes RetryRequest s s′ = failures s s′
+  shapes SuccessResponse s s′ = s .is ∙ ap successResponse (same-id q q′ x _ _ (s .reads) (s′ .reads) same) ∙ sym (s′ .is)
+  shapes FailureResponse s s′ = s .is ∙ ap failureResponse (same-id q q′ x _ _ (s .reads) (s′ .reads) same) ∙ sym (s′ .is)
+  shapes EapSuccess s s′ = s .is ∙ ap eapSuccess (same-id q q′ x _ _ (s .reads) (s′ .reads) same) ∙ sym (s′ .is)
+  shapes EapFailure s s′ = s .is ∙ ap eapFailure (same-id q q′ x _ _ (s .reads) (s′ .reads) same) ∙ sym (s′ .is)
+
+pub read-alike : (end : End) (p p′ : List ℕ) (x : Packet) → AreOctets p → AreOctets p′ → readPacket end p ≡ gives x → readPacket end p′ ≡ gives x → SameAt (take (x .length) p) (take (x .length) p′) x → take (x .length) p ≡ take (x .length) p′
+read-alike end p p′ x o o′ e e′ same =
+    shapes (take (x .length) p) (take (x .length) p′) x (cut-octets p (x .length) o) (cut-octets p′ (x .length) o′) same (x .kind) (tells end p x e .shape) (tells end p′ x e′ .shape)
