@@ -11,7 +11,7 @@ use borrow.Author.Tests.{ltb-true, ltb-false, lt-ltb, le-ltb}
 use borrow.Author.Needs.{needs}
 use Rattle.octets.specs.Choice.{pick}
 use Rattle.octets.specs.Octets.{decimals, decimal, DigitsFrom, digits, digitValue, numberFrom, number, isDigit}
-use Rattle.octets.proofs.Exits.{pick-true, pick-false, below, tested, unless}
+use Rattle.octets.proofs.Exits.{pick-true, pick-false, below, tested, passed}
 use Rattle.octets.proofs.Scans.{ten}
 
 -- the digits of n are those of m, and then digits from i on
@@ -172,7 +172,7 @@ all-digits x xs h =
 digit-range : (x : ℕ) → isDigit x ≡ true → (48 ≤ x) × (x < 58)
 unfolding isDigit
 digit-range x e =
-    let u = unless (ltb x 48) (ltb x 58) e in
+    let u = passed (ltb x 48) (ltb x 58) e in
     (ltb-false x 48 (u .0), ltb-true x 58 (u .1))
 
 pub same-digits : (s t : List ℕ) (a b : ℕ) → digits s ≡ length s → digits t ≡ length t → length s ≡ length t → numberFrom a s ≡ numberFrom b t → (a ≡ b) × (s ≡ t)
