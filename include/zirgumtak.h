@@ -1,0 +1,271 @@
+/*
+ * EAP-MSCHAPv2, both ends: the peer (the one that logs in) and the server.
+ *
+ * Each function is total, and proved to answer and write what its contract says for every input;
+ * this page says the same in words. The functions keep nothing between calls, allocate nothing and
+ * block on nothing. A conversation's state is a buffer of the caller's, which may be stored and
+ * copied at will. Timers, randomness and the network are the caller's.
+ *
+ * A peer's whole login, where receive, draw and transmit are the caller's:
+ *
+ * example
+ *     int log_in(const uint8_t *name, size_t name_len, const uint8_t *hash)
+ *     {
+ *         uint8_t peer[ZT_PEER_OCTETS], packet[ZT_MAX_PACKET], random[16], reply[ZT_PEER_ROOM];
+ *         zt_peer_new(peer, sizeof peer, name, name_len, hash, 16);
+ *         while (ZT_STAGE(peer) != ZT_PEER_SUCCESS && ZT_STAGE(peer) != ZT_PEER_FAILED) {
+ *             size_t len = receive(packet, sizeof packet);
+ *             draw(random, sizeof random);
+ *             uint64_t answer = zt_peer_step(peer, sizeof peer, packet, len, random, 16, reply, sizeof reply);
+ *             if (ZT_NUMBER(answer) == ZT_WRITTEN) transmit(reply, ZT_N(answer));
+ *             if (ZT_NUMBER(answer) == ZT_NEEDS_CREDENTIALS) zt_peer_give_up(peer, sizeof peer);
+ *         }
+ *         return ZT_STAGE(peer) == ZT_PEER_SUCCESS;
+ *     }
+ * end of example
+ *
+ * Every buffer comes as a pointer and its length in octets. A buffer of length 0 may have a null
+ * pointer. A buffer that a call writes (one that is not const) must not overlap another buffer of
+ * the same call: no function can see that it does, so it is the caller's fault.
+ */
+#ifndef ZIRGUMTAK_H
+#define ZIRGUMTAK_H
+
+#include <stddef.h>
+#include <stdint.h>
+
+#ifdef __cplusplus
+extern "C" {
+#endif
+
+/*
+ * Answers
+ *
+ * Each function answers one word: a number in bits 0 to 7, n in bits 8 to 31, and zeros above.
+ * n is the length of the packet that was written to the start of the reply buffer, the octets
+ * after it being left as they were; n is 0 where no packet was written.
+ *
+ * A number from 10 up is a refusal: n is 0, and no octet of any buffer has changed, the state's
+ * included. (One exception: zt_peer_new of a name that is too long.) Where several conditions
+ * hold, the number is that of the first in the order given at each function.
+ */
+#define ZT_NUMBER(answer) ((unsigned)((answer) & 0xff))
+#define ZT_N(answer) ((size_t)((answer) >> 8 & 0xffffff))
+
+#define ZT_WRITTEN 0           /* done; n octets of the reply buffer are a packet to send */
+#define ZT_NEEDS_CREDENTIALS 1 /* the peer waits for zt_peer_supply or zt_peer_give_up */
+#define ZT_AUTHENTICATED 2     /* the end; a server has written EAP Success */
+#define ZT_ENDED 3             /* the end, not authenticated; a server has written EAP Failure */
+#define ZT_FRAGMENT 10         /* a packet of fewer than 4 octets */
+#define ZT_BAD_LENGTH 11       /* Length under 4 or over the octets lent */
+#define ZT_TOO_LONG 12         /* Length over ZT_MAX_PACKET */
+#define ZT_BAD_CODE 13         /* Code not for this end: a peer takes 1, 3, 4, a server 2 */
+#define ZT_BAD_TYPE 14         /* Code 1 or 2 and no Type octet, or a Type other than 26 */
+#define ZT_BAD_OPCODE 15       /* no OpCode, or not one for that Code */
+#define ZT_BAD_MS_LENGTH 16    /* Length under 9, or MS-Length other than Length - 5 */
+#define ZT_BAD_FORM 17         /* the rest of the packet breaks its form */
+#define ZT_WRONG_IDENTIFIER 18 /* Identifier or MS-CHAPv2-ID is not the one due */
+#define ZT_NOT_TAKEN 19        /* this stage does not take this packet or call */
+#define ZT_NO_ROOM 20          /* the reply is longer than its buffer */
+#define ZT_BAD_TABLE 21        /* the account table is malformed */
+#define ZT_SAME_CHALLENGE 22   /* a Failure Request is due, and the fresh challenge is the old one */
+#define ZT_BAD_ARGUMENT 23     /* an argument outside its size */
+
+/*
+ * Sizes, in octets
+ *
+ * A buffer of a fixed size (a state, hash, challenge, random octets, NT-Response, key, block,
+ * digest) that comes with another length is refused with ZT_BAD_ARGUMENT before all else.
+ */
+#define ZT_PEER_OCTETS 1647
+#define ZT_SERVER_OCTETS 304
+
+#define ZT_HASH_OCTETS 16          /* password hash: MD4 of the UTF-16 password */
+#define ZT_CHALLENGE_OCTETS 16     /* challenges, and the random octets of a peer's step */
+#define ZT_NT_RESPONSE_OCTETS 24
+#define ZT_AUTHENTICATOR_OCTETS 20
+#define ZT_MD4_OCTETS 16
+#define ZT_SHA1_OCTETS 20
+#define ZT_DES_OCTETS 8            /* a DES key with its parity bits, and a block */
+
+#define ZT_MAX_PACKET 1020         /* the largest Length that is read */
+#define ZT_MAX_NAME 256            /* a peer's name: 0 to 256; a server's own: 1 to 256 */
+#define ZT_MAX_PASSWORD 512        /* 256 UTF-16 units */
+#define ZT_MAX_TABLE 65536         /* an account table */
+#define ZT_MAX_INPUT 65536         /* what zt_md4 and zt_sha1 take */
+#define ZT_MAX_RETRIES 10
+
+#define ZT_PEER_ROOM 315           /* a reply buffer of this size is always enough for a peer */
+#define ZT_SERVER_ROOM 282         /* and of this size for a server */
+
+/*
+ * The peer's state
+ *
+ * Lengths are little-endian. Fields not yet set are zero, and so is what an array has after its
+ * length. Any octets are some state: a stage that is not below is ZT_PEER_FAILED, and a length
+ * over its array's size counts as that size. Nothing tells a state that was tampered with, and a
+ * stored state holds the password hash: store it where secrets are kept.
+ *
+ *    offset  octets  field
+ *         0       1  stage
+ *         1       1  MS-CHAPv2-ID that a Response copies
+ *         2       2  length of the name
+ *         4       2  length of the request
+ *         6       2  length of the reply
+ *         8      16  password hash
+ *        24      16  authenticator challenge
+ *        40      16  peer challenge
+ *        56     256  name
+ *       312    1020  last answered request (ZT_PEER_WAITING: the Failure Request to be answered)
+ *      1332     315  the reply to it
+ */
+#define ZT_STAGE(state) ((state)[0])
+
+#define ZT_PEER_BEGIN 0
+#define ZT_PEER_CHALLENGE_RESPONSE_SENT 1
+#define ZT_PEER_SUCCESS_RESPONSE_SENT 2
+#define ZT_PEER_FAILURE_RESPONSE_SENT 3
+#define ZT_PEER_WAITING 4
+#define ZT_PEER_SUCCESS 5
+#define ZT_PEER_FAILED 6
+
+/*
+ * The server's state, by the same rules; a stage that is not below is ZT_SERVER_FAILED
+ *
+ *    offset  octets  field
+ *         0       1  stage
+ *         1       1  Identifier of the outstanding request
+ *         2       1  MS-CHAPv2-ID of the outstanding request
+ *         3       1  retries left
+ *         4       2  length of the request
+ *         6      16  outstanding challenge
+ *        22     282  outstanding request
+ */
+#define ZT_SERVER_BEGIN 0
+#define ZT_SERVER_CHALLENGE_SENT 1
+#define ZT_SERVER_SUCCESS_REQUEST_SENT 2
+#define ZT_SERVER_FAILURE_REQUEST_SENT 3
+#define ZT_SERVER_SUCCESS 4
+#define ZT_SERVER_FAILED 5
+
+/*
+ * The peer
+ */
+
+/* Makes a peer of that name and password hash, in ZT_PEER_BEGIN: ZT_WRITTEN, n = 0.
+ * ZT_BAD_ARGUMENT for a name over ZT_MAX_NAME; the state is then a failed peer, all else zero. */
+uint64_t zt_peer_new(uint8_t *state, size_t state_len,
+                     const uint8_t *name, size_t name_len,
+                     const uint8_t *hash, size_t hash_len);
+
+/* Takes a packet from the server. The 16 random octets, new ones for each call, become the peer
+ * challenge if a Response is made, and are not used otherwise. A request that comes again brings
+ * the same reply again.
+ *   ZT_WRITTEN            the reply is to be sent
+ *   ZT_NEEDS_CREDENTIALS  the server took name or password for wrong, and allows another try
+ *   ZT_AUTHENTICATED      the server has shown that it knows the password, and said Success
+ *   ZT_ENDED              it has not shown that, or said Failure
+ *   refusals, in this order: 10 to 17, 19, 18, 20; of a request that comes again: 20 alone */
+uint64_t zt_peer_step(uint8_t *state, size_t state_len,
+                      const uint8_t *packet, size_t packet_len,
+                      const uint8_t *random, size_t random_len,
+                      uint8_t *reply, size_t reply_len);
+
+/* Answers the kept Failure Request with this name and hash, in ZT_PEER_WAITING: ZT_WRITTEN, and
+ * the Response is to be sent. Refusals: 19, 23 (name), 20. */
+uint64_t zt_peer_supply(uint8_t *state, size_t state_len,
+                        const uint8_t *name, size_t name_len,
+                        const uint8_t *hash, size_t hash_len,
+                        const uint8_t *random, size_t random_len,
+                        uint8_t *reply, size_t reply_len);
+
+/* Ends the conversation in ZT_PEER_WAITING: ZT_ENDED, and nothing to send. Refusal: 19. */
+uint64_t zt_peer_give_up(uint8_t *state, size_t state_len);
+
+/*
+ * The server
+ */
+
+/* Makes a server in ZT_SERVER_BEGIN: ZT_WRITTEN, n = 0. */
+uint64_t zt_server_new(uint8_t *state, size_t state_len);
+
+/* Writes the Challenge, under this Identifier and with the server's own name: ZT_WRITTEN. The
+ * challenge is to be random. Refusals: 19 (not in ZT_SERVER_BEGIN), 23 (a name of 0 octets or over
+ * ZT_MAX_NAME, retries over ZT_MAX_RETRIES), 20. */
+uint64_t zt_server_start(uint8_t *state, size_t state_len,
+                         uint8_t identifier,
+                         const uint8_t *challenge, size_t challenge_len,
+                         const uint8_t *name, size_t name_len,
+                         uint64_t retries,
+                         uint8_t *reply, size_t reply_len);
+
+/* Takes a packet from the peer. A Response is judged by the account table; the fresh challenge,
+ * 16 random octets that are new for each call, goes into a Failure Request and is not used
+ * otherwise. A table is looked at only for a Response that is judged, so none need be lent for
+ * another packet.
+ *   ZT_WRITTEN        the next request is to be sent
+ *   ZT_AUTHENTICATED  EAP Success is to be sent: n = 4
+ *   ZT_ENDED          EAP Failure is to be sent: n = 4
+ *   refusals, in this order: 10 to 17, 19, 18, 21, 22, 20 */
+uint64_t zt_server_packet(uint8_t *state, size_t state_len,
+                          const uint8_t *packet, size_t packet_len,
+                          const uint8_t *table, size_t table_len,
+                          const uint8_t *fresh, size_t fresh_len,
+                          uint8_t *reply, size_t reply_len);
+
+/* Writes the outstanding request again, for a peer that does not answer: ZT_WRITTEN. The state
+ * stays as it is. Refusals: 19, 20. */
+uint64_t zt_server_resend(uint8_t *state, size_t state_len,
+                          uint8_t *reply, size_t reply_len);
+
+/*
+ * Without a state. Each answers 0 with n = 0, or a refusal.
+ */
+
+/* Whether a packet can be read by an end: 0 is the peer, 1 the server, and another end is 23.
+ * Refusals: 10 to 17. */
+uint64_t zt_read(uint8_t end, const uint8_t *packet, size_t packet_len);
+
+/* Whether an account table is well formed. Refusal: 21.
+ *
+ * A table is records end to end. Each has its whole length (2 octets, little-endian), its kind
+ * (2 octets, little-endian) and a body. Kind 1 is an account: a code (2 octets, little-endian: 0,
+ * or 646, 647, 648 or 649, which a peer with the right password is told), the password hash (16),
+ * the user's name (0 to 256). Other kinds are skipped. The first account of a name counts. */
+uint64_t zt_accounts_check(const uint8_t *table, size_t table_len);
+
+/* Digests of up to ZT_MAX_INPUT octets; 23 for more. */
+uint64_t zt_md4(const uint8_t *data, size_t data_len, uint8_t *digest, size_t digest_len);
+uint64_t zt_sha1(const uint8_t *data, size_t data_len, uint8_t *digest, size_t digest_len);
+
+/* The password hash of UTF-16 units, each low octet first; 23 for an odd number of octets or over
+ * ZT_MAX_PASSWORD. */
+uint64_t zt_password_hash(const uint8_t *units, size_t units_len, uint8_t *hash, size_t hash_len);
+
+/* One block enciphered with DES. */
+uint64_t zt_des(const uint8_t *key, size_t key_len,
+                const uint8_t *block, size_t block_len,
+                uint8_t *out, size_t out_len);
+
+/* The NT-Response of RFC 2759, 8.1, for a user (a name without its domain); 23 for a user over
+ * ZT_MAX_NAME. */
+uint64_t zt_nt_response(const uint8_t *authenticator_challenge, size_t authenticator_challenge_len,
+                        const uint8_t *peer_challenge, size_t peer_challenge_len,
+                        const uint8_t *user, size_t user_len,
+                        const uint8_t *hash, size_t hash_len,
+                        uint8_t *out, size_t out_len);
+
+/* The authenticator string of RFC 2759, 8.7, before it is written in hex; 23 for a user over
+ * ZT_MAX_NAME. */
+uint64_t zt_authenticator(const uint8_t *hash, size_t hash_len,
+                          const uint8_t *nt_response, size_t nt_response_len,
+                          const uint8_t *peer_challenge, size_t peer_challenge_len,
+                          const uint8_t *authenticator_challenge, size_t authenticator_challenge_len,
+                          const uint8_t *user, size_t user_len,
+                          uint8_t *out, size_t out_len);
+
+#ifdef __cplusplus
+}
+#endif
+
+#endif
