@@ -1,0 +1,117 @@
+//! The logger's end.
+
+use core::fmt;
+
+use crate::answer::{answer_of, done_of, Answer, Refusal};
+use crate::{raw, Octets16, PasswordHash};
+
+/// The stages of a peer.
+#[derive(Clone, Copy, PartialEq, Eq, Debug)]
+pub enum PeerStage {
+    /// Made, and nothing answered yet.
+    Begin,
+    /// A Response is outstanding.
+    ChallengeResponseSent,
+    /// The server has shown that it knows the password, and that was acknowledged.
+    SuccessResponseSent,
+    /// The server's failure was acknowledged.
+    FailureResponseSent,
+    /// The server allows another try; the caller is to supply credentials or give up.
+    Waiting,
+    /// Authenticated.
+    Success,
+    /// Ended without.
+    Failed,
+}
+
+/// The peer: the one that logs in.
+///
+/// The state is octets of a fixed layout (`zirgumtak.h`), and may be stored and brought back. It
+/// holds the password hash.
+#[derive(Clone)]
+pub struct Peer {
+    octets: [u8; Peer::OCTETS],
+}
+
+impl Peer {
+    /// The size of the state.
+    pub const OCTETS: usize = 1647;
+    /// The longest packet that is read.
+    pub const MAX_PACKET: usize = 1020;
+    /// The longest name.
+    pub const MAX_NAME: usize = 256;
+    /// A reply buffer of this size is always enough.
+    pub const REPLY_ROOM: usize = 315;
+
+    /// A peer in BEGIN; [`Refusal::BadArgument`] for a name over 256 octets.
+    pub fn new(name: &[u8], hash: &PasswordHash) -> Result<Peer, Refusal> {
+        let mut octets = [0; Peer::OCTETS];
+        done_of(raw::peer_new(&mut octets, name, &hash.0))?;
+        Ok(Peer { octets })
+    }
+
+    /// Takes a packet. The random octets are to be new at each call; they become the peer
+    /// challenge if a Response is made. A request that comes again brings the same reply again.
+    ///
+    /// Refusals, the first that holds: 10 to 17, 19, 18, 20.
+    pub fn step<'b>(
+        &mut self,
+        packet: &[u8],
+        random: &Octets16,
+        reply: &'b mut [u8],
+    ) -> Result<Answer<'b>, Refusal> {
+        let word = raw::peer_step(&mut self.octets, packet, random, reply);
+        answer_of(word, reply)
+    }
+
+    /// Answers the kept Failure Request with these credentials, in WAITING.
+    ///
+    /// Refusals, the first that holds: 19, 23 (a name over 256 octets), 20.
+    pub fn supply<'b>(
+        &mut self,
+        name: &[u8],
+        hash: &PasswordHash,
+        random: &Octets16,
+        reply: &'b mut [u8],
+    ) -> Result<Answer<'b>, Refusal> {
+        let word = raw::peer_supply(&mut self.octets, name, &hash.0, random, reply);
+        answer_of(word, reply)
+    }
+
+    /// Ends the conversation in WAITING, with nothing to send; 19 elsewhere.
+    pub fn give_up(&mut self) -> Result<(), Refusal> {
+        done_of(raw::peer_give_up(&mut self.octets))
+    }
+
+    /// The stage, octet 0 of the state.
+    pub fn stage(&self) -> PeerStage {
+        match self.octets[0] {
+            0 => PeerStage::Begin,
+            1 => PeerStage::ChallengeResponseSent,
+            2 => PeerStage::SuccessResponseSent,
+            3 => PeerStage::FailureResponseSent,
+            4 => PeerStage::Waiting,
+            5 => PeerStage::Success,
+            _ => PeerStage::Failed,
+        }
+    }
+
+    /// The state, to be stored where secrets are kept.
+    pub fn octets(&self) -> &[u8; Peer::OCTETS] {
+        &self.octets
+    }
+
+    /// A stored state. Any octets are some state; nothing tells one that was tampered with.
+    pub fn from_octets(octets: [u8; Peer::OCTETS]) -> Peer {
+        Peer { octets }
+    }
+}
+
+/// The stage alone: the rest holds secrets.
+impl fmt::Debug for Peer {
+    fn fmt(&self, out: &mut fmt::Formatter<'_>) -> fmt::Result {
+        out.debug_struct("Peer")
+            .field("stage", &self.stage())
+            .finish_non_exhaustive()
+    }
+}
