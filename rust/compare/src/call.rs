@@ -1,0 +1,178 @@
+//! A call of the boundary: its arguments, but for the state and the buffer that it writes.
+
+use zirgumtak::raw;
+
+use crate::boundary as second;
+
+#[derive(Clone, Copy, Debug)]
+pub enum Call<'a> {
+    PeerNew {
+        name: &'a [u8],
+        hash: &'a [u8],
+    },
+    PeerStep {
+        packet: &'a [u8],
+        random: &'a [u8],
+    },
+    PeerSupply {
+        name: &'a [u8],
+        hash: &'a [u8],
+        random: &'a [u8],
+    },
+    PeerGiveUp,
+    ServerNew,
+    ServerStart {
+        identifier: u8,
+        challenge: &'a [u8],
+        name: &'a [u8],
+        retries: u64,
+    },
+    ServerPacket {
+        packet: &'a [u8],
+        table: &'a [u8],
+        fresh: &'a [u8],
+    },
+    ServerResend,
+    Read {
+        end: u8,
+        packet: &'a [u8],
+    },
+    AccountsCheck {
+        table: &'a [u8],
+    },
+    Md4 {
+        data: &'a [u8],
+    },
+    Sha1 {
+        data: &'a [u8],
+    },
+    PasswordHash {
+        units: &'a [u8],
+    },
+    Des {
+        key: &'a [u8],
+        block: &'a [u8],
+    },
+    NtResponse {
+        authenticator_challenge: &'a [u8],
+        peer_challenge: &'a [u8],
+        user: &'a [u8],
+        hash: &'a [u8],
+    },
+    Authenticator {
+        hash: &'a [u8],
+        nt_response: &'a [u8],
+        peer_challenge: &'a [u8],
+        authenticator_challenge: &'a [u8],
+        user: &'a [u8],
+    },
+}
+
+use Call::*;
+
+/// Each function and every number that it can answer (document 01, "What a call answers", and the
+/// boundary's own rule for sizes).
+pub const ANSWERS: [(&str, &[u8]); 16] = [
+    ("zt_peer_new", &[0, 23]),
+    (
+        "zt_peer_step",
+        &[0, 1, 2, 3, 10, 11, 12, 13, 14, 15, 16, 17, 18, 19, 20, 23],
+    ),
+    ("zt_peer_supply", &[0, 19, 20, 23]),
+    ("zt_peer_give_up", &[3, 19, 23]),
+    ("zt_server_new", &[0, 23]),
+    ("zt_server_start", &[0, 19, 20, 23]),
+    (
+        "zt_server_packet",
+        &[
+            0, 2, 3, 10, 11, 12, 13, 14, 15, 16, 17, 18, 19, 20, 21, 22, 23,
+        ],
+    ),
+    ("zt_server_resend", &[0, 19, 20, 23]),
+    ("zt_read", &[0, 10, 11, 12, 13, 14, 15, 16, 17, 23]),
+    ("zt_accounts_check", &[0, 21]),
+    ("zt_md4", &[0, 23]),
+    ("zt_sha1", &[0, 23]),
+    ("zt_password_hash", &[0, 23]),
+    ("zt_des", &[0, 23]),
+    ("zt_nt_response", &[0, 23]),
+    ("zt_authenticator", &[0, 23]),
+];
+
+/// The call made by a module that has all sixteen functions.
+macro_rules! made_by {
+    ($module:ident, $call:expr, $state:ident, $out:ident) => {
+        match $call {
+            PeerNew { name, hash } => $module::peer_new($state, name, hash),
+            PeerStep { packet, random } => $module::peer_step($state, packet, random, $out),
+            PeerSupply { name, hash, random } => {
+                $module::peer_supply($state, name, hash, random, $out)
+            }
+            PeerGiveUp => $module::peer_give_up($state),
+            ServerNew => $module::server_new($state),
+            ServerStart {
+                identifier,
+                challenge,
+                name,
+                retries,
+            } => $module::server_start($state, identifier, challenge, name, retries, $out),
+            ServerPacket {
+                packet,
+                table,
+                fresh,
+            } => $module::server_packet($state, packet, table, fresh, $out),
+            ServerResend => $module::server_resend($state, $out),
+            Read { end, packet } => $module::read(end, packet),
+            AccountsCheck { table } => $module::accounts_check(table),
+            Md4 { data } => $module::md4(data, $out),
+            Sha1 { data } => $module::sha1(data, $out),
+            PasswordHash { units } => $module::password_hash(units, $out),
+            Des { key, block } => $module::des(key, block, $out),
+            NtResponse {
+                authenticator_challenge: theirs,
+                peer_challenge: own,
+                user,
+                hash,
+            } => $module::nt_response(theirs, own, user, hash, $out),
+            Authenticator {
+                hash,
+                nt_response,
+                peer_challenge: own,
+                authenticator_challenge: theirs,
+                user,
+            } => $module::authenticator(hash, nt_response, own, theirs, user, $out),
+        }
+    };
+}
+
+impl Call<'_> {
+    /// The place of the function in [`ANSWERS`].
+    pub fn function(&self) -> usize {
+        match self {
+            PeerNew { .. } => 0,
+            PeerStep { .. } => 1,
+            PeerSupply { .. } => 2,
+            PeerGiveUp => 3,
+            ServerNew => 4,
+            ServerStart { .. } => 5,
+            ServerPacket { .. } => 6,
+            ServerResend => 7,
+            Read { .. } => 8,
+            AccountsCheck { .. } => 9,
+            Md4 { .. } => 10,
+            Sha1 { .. } => 11,
+            PasswordHash { .. } => 12,
+            Des { .. } => 13,
+            NtResponse { .. } => 14,
+            Authenticator { .. } => 15,
+        }
+    }
+}
+
+pub fn by_archive(call: &Call, state: &mut [u8], out: &mut [u8]) -> u64 {
+    made_by!(raw, *call, state, out)
+}
+
+pub fn by_second(call: &Call, state: &mut [u8], out: &mut [u8]) -> u64 {
+    second::word(made_by!(second, *call, state, out))
+}

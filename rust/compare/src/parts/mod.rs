@@ -1,0 +1,27 @@
+//! The parts of a round.
+
+use crate::pair::{Pair, Run};
+use crate::random::Random;
+
+mod conversations;
+mod forms;
+mod guesses;
+mod published;
+mod sizes;
+mod states;
+mod tables;
+
+pub type Part = fn(&mut Pair, &mut Random) -> Run<()>;
+
+pub const PARTS: [(&str, Part); 7] = [
+    (
+        "published vectors and captured conversations",
+        published::run,
+    ),
+    ("whole conversations over a bad link", conversations::run),
+    ("changed, cut and padded packets", forms::run),
+    ("states of any octets", states::run),
+    ("account tables", tables::run),
+    ("wrong guesses at two servers", guesses::run),
+    ("sizes and stateless calls", sizes::run),
+];

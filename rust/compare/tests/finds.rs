@@ -1,0 +1,138 @@
+//! The comparison finds what is planted: the second program against itself with one flaw.
+
+use compare::call::{by_second, Call};
+use compare::pair::{Implementation, Pair};
+use compare::parts::PARTS;
+use compare::random::Random;
+
+/// What one round says of that implementation beside the second program.
+fn difference(planted: Implementation) -> Option<String> {
+    round(Pair::of(planted, by_second))
+}
+
+/// What one round says where both have the flaw.
+fn shared(planted: Implementation) -> Option<String> {
+    round(Pair::of(planted, planted))
+}
+
+fn round(mut pair: Pair) -> Option<String> {
+    for (part, (_, run)) in PARTS.iter().enumerate() {
+        if let Err(difference) = run(&mut pair, &mut Random::new(1, 0, part as u64)) {
+            return Some(difference.to_string());
+        }
+    }
+    assert_eq!(pair.not_seen(), []);
+    None
+}
+
+#[test]
+fn nothing_where_there_is_nothing() {
+    assert_eq!(difference(by_second), None);
+}
+
+#[test]
+fn a_number() {
+    let found = difference(|call, state, out| match by_second(call, state, out) {
+        22 => 20,
+        word => word,
+    });
+    let found = found.expect("a difference");
+    assert!(found.contains("zt_server_packet"));
+    assert!(found.contains("answers 20") && found.contains("answers 22"));
+}
+
+#[test]
+fn n() {
+    assert!(
+        difference(|call, state, out| match by_second(call, state, out) {
+            2 => 2 | 4 << 8,
+            word => word,
+        })
+        .is_some()
+    );
+}
+
+#[test]
+fn the_upper_half_of_the_word() {
+    assert!(difference(|call, state, out| by_second(call, state, out) | 1 << 63).is_some());
+}
+
+#[test]
+fn one_octet_of_a_state() {
+    let found = difference(|call, state, out| {
+        let word = by_second(call, state, out);
+        if matches!(call, Call::PeerSupply { .. }) && word as u8 == 0 {
+            state[1646] ^= 1;
+        }
+        word
+    });
+    assert!(found.is_some());
+}
+
+#[test]
+fn one_octet_after_the_packet() {
+    let found = difference(|call, state, out| {
+        let word = by_second(call, state, out);
+        let n = (word >> 8) as usize;
+        if matches!(call, Call::ServerResend) && word as u8 == 0 && n < out.len() {
+            out[n] = !out[n];
+        }
+        word
+    });
+    assert!(found.is_some());
+}
+
+#[test]
+fn a_state_written_at_a_refusal() {
+    let found = difference(|call, state, out| {
+        let word = by_second(call, state, out);
+        if matches!(call, Call::ServerPacket { .. }) && word as u8 == 21 {
+            state[3] = 0;
+        }
+        word
+    });
+    assert!(found.is_some());
+}
+
+#[test]
+fn a_wrong_result_of_both() {
+    let found = shared(|call, state, out| {
+        let word = by_second(call, state, out);
+        if matches!(call, Call::Md4 { .. }) && word == 0 {
+            out[15] ^= 1;
+        }
+        word
+    });
+    assert!(found
+        .expect("a difference")
+        .starts_with("both differ from what is published"));
+}
+
+#[test]
+fn a_refusal_of_both_that_writes() {
+    let found = shared(|call, state, out| {
+        let word = by_second(call, state, out);
+        if matches!(call, Call::PeerStep { .. }) && word == 17 && !out.is_empty() {
+            out[0] = !out[0];
+        }
+        word
+    });
+    assert!(found
+        .expect("a difference")
+        .starts_with("both wrote at a refusal"));
+}
+
+/// A Failure Request that tells whether the table was empty.
+#[test]
+fn a_wrong_guess_that_tells() {
+    let found = shared(|call, state, out| {
+        let word = by_second(call, state, out);
+        if matches!(call, Call::ServerPacket { table: [], .. }) && word == 60 << 8 {
+            out[13] = b'2';
+        }
+        word
+    });
+    assert!(found
+        .expect("a difference")
+        .starts_with("a wrong guess tells two tables apart"));
+}
