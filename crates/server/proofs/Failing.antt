@@ -8,8 +8,7 @@ use native.Mathlib.Omega.{arith}
 use lib.ListN.{length}
 use borrow.Author.Tests.{eq-eqb, ne-eqb}
 use Rattle.octets.specs.Choice.{pick}
-use Rattle.octets.specs.Lists.{cells}
-use Rattle.octets.specs.Octets.{same, decimal, decimals, numberAt}
+use Rattle.octets.specs.Octets.{same}
 use Rattle.octets.proofs.Exits.{pick-true, pick-false}
 use Rattle.octets.proofs.Scans.{same-true}
 use Rattle.answer.specs.Outcome.{gives, Outcome, outcome}
@@ -18,8 +17,10 @@ use Rattle.answer.proofs.Outcomes.{fitting-so}
 use Rattle.packet.specs.declared.End.the-variants as end
 use Rattle.packet.specs.declared.Kind.the-variants.{FailureResponse}
 use Rattle.packet.specs.declared.Packet.{Packet}
-use Rattle.packet.specs.Forms.{failureMessage, header, chapPacket, challengePacket, failureRequest, failureResponse, eapFailure}
-use Rattle.packet.specs.Reader.{place, readPacket, readCut, readWhole, readAt, readAtServer, readBare, bareRead}
+use Rattle.packet.specs.Forms.{challengePacket, failureRequest, failureResponse, eapFailure}
+use Rattle.packet.proofs.Back.{failure-response-back}
+use Rattle.packet.proofs.Sizes.{length-failureRequest-60}
+use Rattle.packet.specs.Reader.{readPacket, reading, nowhere}
 use Rattle.verdict.specs.declared.Verdict.{Verdict}
 use Rattle.server.specs.declared.Server.{Server}
 use Rattle.server.specs.declared.Stage.{Stage}
@@ -57,10 +58,6 @@ abbrev pub WrongTries : Side → Server → List Try → Type 0
 WrongTries x s [] = Unit {0}
 WrongTries x s (g ∷ gs) = WrongTry x s g × WrongTries x (serverStep x s (callOf g) .state) gs
 
-length-691 : (id chapid retry : ℕ) (challenge : List ℕ) → length (failureRequest id chapid 691 retry challenge []) ≡ 60
-unfolding failureRequest failureMessage chapPacket header decimal decimals cells pick
-length-691 id chapid retry challenge = refl
-
 -- the state after a Failure Request with code 691 that there is room for
 abbrev rejected : Server → Stage → ℕ → ℕ → List ℕ → Server
 rejected s stage retries retry fresh =
@@ -70,7 +67,7 @@ fail-state : (s : Server) (stage : Stage) (retries retry : ℕ) (fresh : List �
     → failOf s stage retries 691 retry fresh room .state ≡ rejected s stage retries retry fresh
 unfolding failOf rejectOf asks
 fail-state s stage retries retry fresh room d r =
-    let l : length (failureRequest (nextId (s .id) .0) (chapOf (nextId (s .id)) .0) 691 retry fresh []) ≤ room = rw length-691 r in
+    let l : length (failureRequest (nextId (s .id) .0) (chapOf (nextId (s .id)) .0) 691 retry fresh []) ≤ room = rw (length-failureRequest-60 _ _ 691 retry fresh (omega arith) (omega arith)) r in
     ap (λ (o : Outcome Server). o .state) (pick-false _ _ _ (other (same fresh (s .challenge)) refl) ∙ fitting-so room s _ l)
   where
     other : (b : Bool) → same fresh (s .challenge) ≡ b → same fresh (s .challenge) ≡ false
@@ -111,10 +108,8 @@ exhausted x s (g ∷ (h ∷ gs)) e l w =
     exhausted x (serverStep x s (callOf g) .state) (h ∷ gs) (ap (λ (r : Server). r .stage) m ∙ e) (rw m (omega arith)) (w .1)
 
 -- a Failure Response under the outstanding Identifier
-read-end : (i : ℕ) → readPacket end.Server (failureResponse i)
-    ≡ gives (record { kind = FailureResponse; id = record { 0 = i }; chapid = record { 0 = 0 }; length = 6; code = 0; challenge = place 0 0; response = place 0 0; tail = place 0 0 })
-unfolding readPacket readCut readWhole readAt readAtServer readBare bareRead numberAt pick
-read-end i = refl
+read-end : (i : ℕ) → readPacket end.Server (failureResponse i) ≡ gives (reading FailureResponse i 0 6 0 nowhere nowhere nowhere)
+read-end i = failure-response-back i .reads []
 
 pub ends-failed : (x : Side) (s : Server) (tables : Side → List ℕ) (fresh reply : List ℕ) → s .stage ≡ FailureRequestSent → 4 ≤ length reply
     → serverStep x s (brings (failureResponse (s .id .0)) tables fresh reply) ≡ answered (outcome 3 (eapFailure (s .id .0)) (staged Failed s)) reply

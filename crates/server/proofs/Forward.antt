@@ -23,7 +23,7 @@ use Rattle.mschap.specs.Responses.{authenticatorOf}
 use Rattle.verdict.specs.declared.Verdict.{Verdict}
 use Rattle.verdict.specs.Verdict.{hashAt, judgeOf}
 use Rattle.verdict.proofs.Rightness.{judge-right}
-use Rattle.writers.proofs.Sizes.{length-challengePacket, length-successRequest}
+use Rattle.packet.proofs.Sizes.{length-challengePacket, length-successRequest}
 use Rattle.server.specs.declared.Stage.{Stage}
 use Rattle.server.specs.declared.Stage.the-variants.{Begin, ChallengeSent, SuccessRequestSent, FailureRequestSent, Success, Failed}
 use Rattle.server.specs.declared.Server.{Server}

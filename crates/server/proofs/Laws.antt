@@ -1,32 +1,33 @@
--- Laws of requests as they are kept, and of a start's arguments.
+-- What this crate's functions need: requests as they are kept, the turn after a reading, a start's arguments.
 use Prim.Native.Nat.{ℕ, _≤_, _<_}
+use native.Mathlib.Omega.{arith}
 use mathlib.Core.Path.{_≡_, refl, sym, ap, _∙_}
 use mathlib.Core.Bool.{Bool, true, false, _&&_}
 use mathlib.Core.List.{List, [], append-nil}
 use lib.ListN.{length, take, drop, replicate, drop-of-length-le}
 use lib.Dec.{eqb, ltb, leb}
-use native.Mathlib.Omega.{arith}
-use borrow.Author.Tests.{ltb-false, eqb-false, le-leb}
+use borrow.Author.Tests.{ltb-false, eqb-false, ne-eqb, le-leb}
 use Rattle.octets.specs.Choice.{pick}
-use Rattle.octets.proofs.Exits.{pick-true, pick-false, and-both, passed}
 use Rattle.octets.specs.Lists.{over}
 use Rattle.octets.specs.Octets.{decimal}
+use Rattle.octets.proofs.Exits.{pick-true, pick-false, and-both, passed}
 use Rattle.octets.proofs.Decimals.{few-decimal}
 use Rattle.octets.proofs.Lists.{over-zeros, take-sized}
-use Rattle.answer.specs.Outcome.{Outcome, outcome, Does}
-use Rattle.answer.proofs.Outcomes.{fitting-so}
 use Rattle.answer.specs.Answer.{refusalOf}
+use Rattle.answer.specs.Outcome.{Outcome, outcome, Does}
+use Rattle.answer.specs.declared.Answer.the-variants as answer
 use Rattle.answer.specs.declared.ChapId.{ChapId}
 use Rattle.answer.specs.declared.Identifier.{Identifier}
 use Rattle.answer.specs.declared.Refusal.{Refusal}
-use Rattle.answer.specs.declared.Refusal.the-variants.{Fragment, BadLength, TooLong, BadCode, BadType, BadOpCode, BadMsLength, BadForm, WrongIdentifier, NotTaken, NoRoom, BadTable, SameChallenge, BadArgument}
+use Rattle.answer.proofs.Apart.{numbers-apart}
+use Rattle.answer.proofs.Outcomes.{fitting-so}
 use Rattle.packet.specs.declared.Packet.{Packet}
 use Rattle.packet.specs.declared.Reading.{Reading}
 use Rattle.packet.specs.declared.Reading.the-variants.{Refused, Read}
 use Rattle.packet.specs.Forms.{challengePacket, successRequest, failureRequest}
 use Rattle.packet.specs.Reader.{toldReading}
+use Rattle.packet.proofs.Sizes.{length-challengePacket, length-successRequest, length-failureRequest}
 use Rattle.writers.specs.Writers.{writing, writeChallenge, writeSuccessRequest, writeFailureRequest}
-use Rattle.writers.proofs.Sizes.{length-challengePacket, length-successRequest, length-failureRequest}
 use Rattle.writers.proofs.Writing.{writing-so}
 use Rattle.server.specs.declared.Request.{Request}
 use Rattle.server.specs.declared.Stage.{Stage}
@@ -34,9 +35,10 @@ use Rattle.server.specs.declared.Stage.the-variants.{SuccessRequestSent}
 use Rattle.server.specs.declared.Server.{Server}
 use Rattle.server.specs.declared.Turn.{Turn as Taken}
 use Rattle.server.specs.State.{Holds, nextId, chapOf, asked, askedBy}
-use Rattle.server.specs.Calls.{asks, asksBy, startFits, rejectOf, succeedOf, takeTurn}
 use Rattle.server.specs.Moves.{Turn, refusedBy, toldTurn, turnAt, turnRead}
+use Rattle.server.specs.Calls.{asks, asksBy, startFits, rejectOf, succeedOf, takeTurn}
 
+-- ---- requests
 -- a request as it is kept gives its octets, and the state that has asked by them
 pub asks-by : (s : Server) (stage : Stage) (id : Identifier) (challenge : List ℕ) (retries : ℕ) (q : List ℕ) (r : Request) (room : ℕ) → Holds r q
     → asks s stage id challenge retries q room ≡ asksBy s stage id challenge retries r room
@@ -45,11 +47,10 @@ asks-by s stage id challenge retries q r room h =
     let e : take (r .len) (r .octets) ≡ q = rw (h .octets, h .len) (take-sized 282 q (h .fits)) in
     rw (e, h .octets, h .len)
 
--- ---- what the writers make
 pub failure-fits : (id chapid code retry : ℕ) (challenge : List ℕ) → length (failureRequest id chapid code retry challenge []) ≤ 282
 failure-fits id chapid code retry challenge = omega (arith, length-failureRequest id chapid code retry (length (decimal code)) challenge [] refl, few-decimal code)
 
--- a packet that has a form and fits is written
+-- ---- what the writers make: a packet that has a form and fits
 module _ (formed : Bool) (k n : ℕ) (q before after : List ℕ) (d : Does (writing formed (length before) q) k n tt before after) (f : formed ≡ true) (room : length q ≤ length before) (short : length q ≤ 1020) where
   written : writing formed (length before) q ≡ outcome 0 q tt
   written = writing-so formed (length before) q f short ∙ fitting-so (length before) tt (outcome 0 q tt) room
@@ -109,20 +110,11 @@ succeed-by s string id r room e h = rw (← e) (asks-by s SuccessRequestSent id 
 
 -- ---- the turn after a reading
 not-zero : (why : Refusal) → eqb (refusalOf why) 0 ≡ false
-not-zero Fragment = refl
-not-zero BadLength = refl
-not-zero TooLong = refl
-not-zero BadCode = refl
-not-zero BadType = refl
-not-zero BadOpCode = refl
-not-zero BadMsLength = refl
-not-zero BadForm = refl
-not-zero WrongIdentifier = refl
-not-zero NotTaken = refl
-not-zero NoRoom = refl
-not-zero BadTable = refl
-not-zero SameChallenge = refl
-not-zero BadArgument = refl
+not-zero why =
+    ne-eqb _ _ (λ e.
+    let q : answer.Refused why ≡ answer.Written = numbers-apart (answer.Refused why) answer.Written e in
+    let z : _≡_ {A = ℕ} 0 1 = cc in
+    omega arith)
 
 pub read-refused : (x : Reading) (why : Refusal) (s : Server) → x ≡ Refused why → refusedBy (refusalOf why) ≡ turnRead (toldReading x) s
 unfolding turnRead

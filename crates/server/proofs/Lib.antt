@@ -1,9 +1,10 @@
 pub mod Laws
-pub mod WrongGuess
-pub mod Teeth
-pub mod Remarks
 pub mod Turns
 pub mod Effects
+pub mod WrongGuess
+pub mod OtherServers
+pub mod Remarks
 pub mod Promises
+pub mod Reading
 pub mod Forward
 pub mod Failing

@@ -3,12 +3,13 @@
 use Prim.Native.Nat.{ℕ, _+_, _%_, _≤_}
 use mathlib.Core.Path.{_≡_, refl, sym, ap, _∙_}
 use mathlib.Core.Bool.{true, not}
-use mathlib.Core.List.{List, []}
+use mathlib.Core.List.{List, [], _∷_}
 use native.Mathlib.Omega.{arith}
 use lib.ListN.{length, getD}
 use lib.Dec.{eqb}
 use borrow.Author.Tests.{ne-eqb}
 use Rattle.octets.specs.Choice.{pick}
+use Rattle.octets.specs.Octets.{AreOctets}
 use Rattle.octets.proofs.Exits.{pick-false}
 use Rattle.octets.proofs.Lists.{take-sized}
 use Rattle.answer.specs.Outcome.{Outcome, outcome, refused}
@@ -20,11 +21,11 @@ use Rattle.server.specs.declared.Server.{Server}
 use Rattle.server.specs.State.{storedRequest, nextId, chapOf, asked, staged}
 use Rattle.server.specs.Moves.{sent}
 use Rattle.server.specs.Calls.{againOf, resendOf}
-use Rattle.server.specs.Guess.{Side, Call, starts, brings, resends, replyOf, outcomeOf, answered, serverStep}
+use Rattle.server.specs.Guess.{Side, Call, starts, brings, resends, replyOf, outcomeOf, answered, serverStep, stateAfter}
 use Rattle.server.specs.Effects.{Effect, refusing, starting, granting, denying, retrying, rejecting, confirming, ending, resending}
 use Rattle.server.proofs.Laws.{failure-fits, start-named}
 use Rattle.server.proofs.Effects.{effect}
-use Rattle.writers.proofs.Sizes.{length-challengePacket, length-successRequest}
+use Rattle.packet.proofs.Sizes.{length-challengePacket, length-successRequest}
 
 -- ---- "Numbers from 10 up change no state and no lent octet, and n = 0."
 pub refusals : (x : Side) (s : Server) (c : Call) → 10 ≤ serverStep x s c .number → serverStep x s c ≡ record { number = serverStep x s c .number; n = 0; reply = replyOf c; state = s }
@@ -106,7 +107,7 @@ resends-stored x s reply e r = ap (λ (o : Outcome Server). answered o reply) (p
 -- a challenge is sixteen octets
 abbrev pub Lent : Call → Type 0
 Lent (starts id challenge name retries reply) = length challenge ≡ 16
-Lent (brings packet tables fresh reply) = (length fresh ≡ 16)
+Lent (brings packet tables fresh reply) = (length fresh ≡ 16) × AreOctets fresh
 Lent (resends reply) = Unit {0}
 
 -- the request that is outstanding after a call, q being the one before it
@@ -140,3 +141,19 @@ stored-after x s c = go (effect x s c)
     go (confirming k u t) z = refl
     go (ending k u t) z = refl
     go (resending e) z = refl
+
+-- over a list of calls
+abbrev pub AllLent : List Call → Type 0
+AllLent [] = Unit {0}
+AllLent (c ∷ cs) = Lent c × AllLent cs
+
+-- the last request that the calls wrote, q being the one before them
+unfoldable pub lastRequest : Side → Server → List ℕ → List Call → List ℕ
+lastRequest x s q [] = q
+lastRequest x s q (c ∷ cs) = lastRequest x (outcomeOf x s c .state) (requestAfter c (outcomeOf x s c) q) cs
+
+pub stored-last : (x : Side) (s : Server) (cs : List Call) → AllLent cs → storedRequest (stateAfter serverStep x s cs) ≡ lastRequest x s (storedRequest s) cs
+unfolding stateAfter serverStep lastRequest
+stored-last x s [] l = refl
+stored-last x s (c ∷ cs) l =
+    stored-last x (outcomeOf x s c .state) cs (l .1) ∙ ap (λ (q : List ℕ). lastRequest x (outcomeOf x s c .state) q cs) (stored-after x s c (l .0))

@@ -37,7 +37,7 @@ module _ (step : Step) (kept : Kept step) where
   refuses-not h = omega (arith, h one fresh (start 1), ap (λ (a : Answered). a .number) (kept one fresh (start 1)))
 
   -- the one that answers every packet alike
-  pub alike-not : ((x : Side) (s : Server) (p q : List ℕ) (t : Side → List ℕ) (fresh reply : List ℕ) → step x s (brings p t fresh reply) .number ≡ step x s (brings q t fresh reply) .number) → ⊥
+  pub alike-not : ((x : Side) (s : Server) (p q : List ℕ) (t : Side → List ℕ) (random reply : List ℕ) → step x s (brings p t random reply) .number ≡ step x s (brings q t random reply) .number) → ⊥
   unfolding serverStep packetOf turnOf turnRead turnAt turnBy readPacket readCut readWhole readAt readAtServer readBare bareRead numberAt takeTurn confirmOf fitting pick
   alike-not h =
       let s = waiting [] in

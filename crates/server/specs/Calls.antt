@@ -26,7 +26,7 @@ use Rattle.server.specs.Moves.{begins, sent, Turn, refusedBy, judges, co
 unfoldable pub asks : Server → Stage → Identifier → List ℕ → ℕ → List ℕ → ℕ → Outcome Server
 asks s stage id challenge retries q room = fitting room s (outcome 0 q (asked stage id challenge retries q))
 
--- the same by a request as it is kept
+-- the same, of a request as the code keeps it
 unfoldable pub asksBy : Server → Stage → Identifier → List ℕ → ℕ → Request → ℕ → Outcome Server
 asksBy s stage id challenge retries r room = fitting room s (outcome 0 (take (r .len) (r .octets)) (askedBy stage id challenge retries r))
 
@@ -75,15 +75,15 @@ actBy Right s code string fresh room = rightOf s code string fresh room
 unfoldable pub actOf : Verdict → Server → List ℕ → ℕ → Outcome Server
 actOf v s fresh room = actBy (v .mark) s (v .code) (v .string) fresh room
 
--- ---- the verdict on a Response. q is its first L octets, k what was read of it
+-- ---- the verdict on a Response p, of which k was read: the octets at k's places
 unfoldable pub peerChallengeOf : Packet → List ℕ → List ℕ
-peerChallengeOf k q = sized 16 (drop (k .challenge .start) q)
+peerChallengeOf k p = sized 16 (drop (k .challenge .start) p)
 
 unfoldable pub ntResponseOf : Packet → List ℕ → List ℕ
-ntResponseOf k q = sized 24 (drop (k .response .start) q)
+ntResponseOf k p = sized 24 (drop (k .response .start) p)
 
 unfoldable pub nameOf : Packet → List ℕ → List ℕ
-nameOf k q = part q (k .tail .start) (k .tail .len)
+nameOf k p = part p (k .tail .start) (k .tail .len)
 
 unfoldable pub verdictOf : Server → Packet → List ℕ → List ℕ → Verdict
 verdictOf s k p table = judgeOf (s .challenge) (peerChallengeOf k p) (ntResponseOf k p) (nameOf k p) table

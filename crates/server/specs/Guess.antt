@@ -54,7 +54,7 @@ answered o reply = record { number = o .number; n = length (o .octets); reply = 
 abbrev pub Step : Type 0
 Step = Side → Server → Call → Answered
 
--- "this page's server"
+-- "this page's server": the contracts of start, packet and resend promise this answer (`does-answered` in proofs/WrongGuess)
 unfoldable pub serverStep : Step
 serverStep x s c = answered (outcomeOf x s c) (replyOf c)
 

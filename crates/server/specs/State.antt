@@ -23,7 +23,7 @@ nextId i = record { 0 = (i .0 + 1) % 256 }
 unfoldable pub chapOf : Identifier → ChapId
 chapOf i = record { 0 = i .0 }
 
--- a request as it is kept: its octets, zeros after them, and its length
+-- the code keeps the request q as r: its octets, zeros after them, and its length
 pub record Holds (r : Request) (q : List ℕ) : Type 0 where
   pub fits : length q ≤ 282
   pub octets : r .octets ≡ sized 282 q
@@ -54,7 +54,7 @@ asked stage id challenge retries q = record {
   requestlen = length q;
 }
 
--- the same by a request as it is kept
+-- the same, of a request as the code keeps it
 unfoldable pub askedBy : Stage → Identifier → List ℕ → ℕ → Request → Server
 askedBy stage id challenge retries r = record {
   stage = stage;

@@ -1,5 +1,4 @@
--- The wrong-guess rule shuts servers out: it is false of one that tells 647 before the response is found right, and of one that counts a retry
--- only for known names.
+-- The wrong-guess rule is false of a server that tells 647 before the response is found right, and of one that counts a retry only for known names.
 use Prim.Native.Nat.{ℕ}
 use mathlib.Core.Path.{_≡_, refl, sym, ap, _∙_}
 use mathlib.Core.Bool.{Bool, true, false}
@@ -109,88 +108,89 @@ guessed f = go (same (replicate 24 0) due) refl
     go false e = f 0 (λ h. let z : _≡_ {A = ℕ} 0 1 = cc (e, ap (λ (r : List ℕ). same (replicate 24 0) r) h, same-refl (replicate 24 0)) in omega arith)
 
 -- ---- a server that tells 647 before the response is found right
-abbrev hastily : Lookup → Verdict → Verdict
-hastily Absent v = v
-hastily (Account code place) v = pick (eqb code 647) (right 647 []) v
+abbrev pub earlyVerdict : Lookup → Verdict → Verdict
+earlyVerdict Absent v = v
+earlyVerdict (Account code place) v = pick (eqb code 647) (right 647 []) v
 
-abbrev hastyTurn : Turn → Server → List ℕ → List ℕ → List ℕ → ℕ → Outcome Server
-hastyTurn (refusedBy n) s p table fresh room = takeTurn (refusedBy n) s p table fresh room
-hastyTurn (judges k) s p table fresh room = actOf (hastily (accountOf table (userOf (nameOf k p))) (verdictOf s k p table)) s fresh room
-hastyTurn (confirms k) s p table fresh room = takeTurn (confirms k) s p table fresh room
-hastyTurn (ends k) s p table fresh room = takeTurn (ends k) s p table fresh room
+abbrev pub earlyTurn : Turn → Server → List ℕ → List ℕ → List ℕ → ℕ → Outcome Server
+earlyTurn (refusedBy n) s p table fresh room = takeTurn (refusedBy n) s p table fresh room
+earlyTurn (judges k) s p table fresh room = actOf (earlyVerdict (accountOf table (userOf (nameOf k p))) (verdictOf s k p table)) s fresh room
+earlyTurn (confirms k) s p table fresh room = takeTurn (confirms k) s p table fresh room
+earlyTurn (ends k) s p table fresh room = takeTurn (ends k) s p table fresh room
 
-abbrev hasty : Step
-hasty x s (starts id challenge name retries reply) = serverStep x s (starts id challenge name retries reply)
-hasty x s (brings p tables fresh reply) = answered (hastyTurn (turnOf s p) s p (tables x) fresh (length reply)) reply
-hasty x s (resends reply) = serverStep x s (resends reply)
+abbrev pub tellsEarly : Step
+tellsEarly x s (starts id challenge name retries reply) = serverStep x s (starts id challenge name retries reply)
+tellsEarly x s (brings p tables fresh reply) = answered (earlyTurn (turnOf s p) s p (tables x) fresh (length reply)) reply
+tellsEarly x s (resends reply) = serverStep x s (resends reply)
 
+-- the second digit of E in a reply, and in the first reply of a run
 abbrev digit : Answered → ℕ
 digit a = getD (a .reply) 12 0
 
-abbrev digits : List Answered → ℕ
-digits [] = 0
-digits (a ∷ rest) = digit a
+abbrev firstDigit : List Answered → ℕ
+firstDigit [] = 0
+firstDigit (a ∷ rest) = digit a
 
 -- E=691 at one server, and E=647 at the other
-hasty-one : (b : ℕ) → (replicate 24 b ≡ due → ⊥) → digit (hasty one (waiting 0) (call b)) ≡ 57
+early-one : (b : ℕ) → (replicate 24 b ≡ due → ⊥) → digit (tellsEarly one (waiting 0) (call b)) ≡ 57
 unfolding nameOf userOf userStart startFrom lookups actOf actBy wrongOf failOf rejectOf asks fitting same nextId chapOf failureRequest failureMessage chapPacket header decimal decimals cells hexAt hexDigit pick
-hasty-one b h =
-    ap (λ (u : Turn). digit (answered (hastyTurn u (waiting 0) (guess b) [] (replicate 16 1) 60) (replicate 60 0))) (taken b 0)
-    ∙ ap (λ (k : Lookup). digit (answered (actOf (hastily k (verdictOf (waiting 0) found (guess b) [])) (waiting 0) (replicate 16 1) 60) (replicate 60 0))) (looked-up one)
+early-one b h =
+    ap (λ (u : Turn). digit (answered (earlyTurn u (waiting 0) (guess b) [] (replicate 16 1) 60) (replicate 60 0))) (taken b 0)
+    ∙ ap (λ (k : Lookup). digit (answered (actOf (earlyVerdict k (verdictOf (waiting 0) found (guess b) [])) (waiting 0) (replicate 16 1) 60) (replicate 60 0))) (looked-up one)
     ∙ ap (λ (v : Verdict). digit (answered (actOf v (waiting 0) (replicate 16 1) 60) (replicate 60 0))) (verdict-wrong one (waiting 0) (guess b) tables (replicate 16 1) (replicate 60 0) found (taken b 0) (not-right b 0 h one))
 
-hasty-two : (b : ℕ) → digit (hasty two (waiting 0) (call b)) ≡ 52
+early-two : (b : ℕ) → digit (tellsEarly two (waiting 0) (call b)) ≡ 52
 unfolding nameOf userOf userStart startFrom lookups actOf actBy rightOf failOf rejectOf asks fitting same nextId chapOf failureRequest failureMessage chapPacket header decimal decimals cells hexAt hexDigit pick
-hasty-two b =
-    ap (λ (u : Turn). digit (answered (hastyTurn u (waiting 0) (guess b) (tables two) (replicate 16 1) 60) (replicate 60 0))) (taken b 0)
-    ∙ ap (λ (k : Lookup). digit (answered (actOf (hastily k (verdictOf (waiting 0) found (guess b) (tables two))) (waiting 0) (replicate 16 1) 60) (replicate 60 0))) (looked-up two)
+early-two b =
+    ap (λ (u : Turn). digit (answered (earlyTurn u (waiting 0) (guess b) (tables two) (replicate 16 1) 60) (replicate 60 0))) (taken b 0)
+    ∙ ap (λ (k : Lookup). digit (answered (actOf (earlyVerdict k (verdictOf (waiting 0) found (guess b) (tables two))) (waiting 0) (replicate 16 1) 60) (replicate 60 0))) (looked-up two)
 
-pub hasty-breaks : WrongGuessRule hasty → ⊥
+pub tells-early-breaks : WrongGuessRule tellsEarly → ⊥
 unfolding run
-hasty-breaks rule =
+tells-early-breaks rule =
     guessed (λ b h.
-    let e : run hasty one (waiting 0) (call b ∷ []) ≡ run hasty two (waiting 0) (call b ∷ []) = rule (waiting 0) (call b ∷ []) (λ x. (not-right b 0 h x, tt)) in
-    let z : _≡_ {A = ℕ} 57 52 = sym (hasty-one b h) ∙ ap digits e ∙ hasty-two b in
+    let e : run tellsEarly one (waiting 0) (call b ∷ []) ≡ run tellsEarly two (waiting 0) (call b ∷ []) = rule (waiting 0) (call b ∷ []) (λ x. (not-right b 0 h x, tt)) in
+    let z : _≡_ {A = ℕ} 57 52 = sym (early-one b h) ∙ ap firstDigit e ∙ early-two b in
     omega arith)
 
 -- ---- a server that counts a retry only for known names
-abbrev thriftily : Lookup → Verdict → Server → List ℕ → ℕ → Outcome Server
-thriftily Absent v s fresh room = failOf s (s .stage) (s .retries) 691 1 fresh room
-thriftily (Account code place) v s fresh room = actOf v s fresh room
+abbrev pub counted : Lookup → Verdict → Server → List ℕ → ℕ → Outcome Server
+counted Absent v s fresh room = failOf s (s .stage) (s .retries) 691 1 fresh room
+counted (Account code place) v s fresh room = actOf v s fresh room
 
-abbrev thriftyTurn : Turn → Server → List ℕ → List ℕ → List ℕ → ℕ → Outcome Server
-thriftyTurn (refusedBy n) s p table fresh room = takeTurn (refusedBy n) s p table fresh room
-thriftyTurn (judges k) s p table fresh room = thriftily (accountOf table (userOf (nameOf k p))) (verdictOf s k p table) s fresh room
-thriftyTurn (confirms k) s p table fresh room = takeTurn (confirms k) s p table fresh room
-thriftyTurn (ends k) s p table fresh room = takeTurn (ends k) s p table fresh room
+abbrev pub countedTurn : Turn → Server → List ℕ → List ℕ → List ℕ → ℕ → Outcome Server
+countedTurn (refusedBy n) s p table fresh room = takeTurn (refusedBy n) s p table fresh room
+countedTurn (judges k) s p table fresh room = counted (accountOf table (userOf (nameOf k p))) (verdictOf s k p table) s fresh room
+countedTurn (confirms k) s p table fresh room = takeTurn (confirms k) s p table fresh room
+countedTurn (ends k) s p table fresh room = takeTurn (ends k) s p table fresh room
 
-abbrev thrifty : Step
-thrifty x s (starts id challenge name retries reply) = serverStep x s (starts id challenge name retries reply)
-thrifty x s (brings p tables fresh reply) = answered (thriftyTurn (turnOf s p) s p (tables x) fresh (length reply)) reply
-thrifty x s (resends reply) = serverStep x s (resends reply)
+abbrev pub countsKnown : Step
+countsKnown x s (starts id challenge name retries reply) = serverStep x s (starts id challenge name retries reply)
+countsKnown x s (brings p tables fresh reply) = answered (countedTurn (turnOf s p) s p (tables x) fresh (length reply)) reply
+countsKnown x s (resends reply) = serverStep x s (resends reply)
 
 abbrev retriesLeft : List Answered → ℕ
 retriesLeft [] = 0
 retriesLeft (a ∷ rest) = a .state .retries
 
 -- one retry is left at one server, and none at the other
-thrifty-one : (b : ℕ) → thrifty one (waiting 1) (call b) .state .retries ≡ 1
+counted-one : (b : ℕ) → countsKnown one (waiting 1) (call b) .state .retries ≡ 1
 unfolding nameOf userOf userStart startFrom lookups failOf rejectOf asks asked fitting same nextId chapOf failureRequest failureMessage chapPacket header decimal decimals cells hexAt hexDigit pick
-thrifty-one b =
-    ap (λ (u : Turn). thriftyTurn u (waiting 1) (guess b) [] (replicate 16 1) 60 .state .retries) (taken b 1)
-    ∙ ap (λ (k : Lookup). thriftily k (verdictOf (waiting 1) found (guess b) []) (waiting 1) (replicate 16 1) 60 .state .retries) (looked-up one)
+counted-one b =
+    ap (λ (u : Turn). countedTurn u (waiting 1) (guess b) [] (replicate 16 1) 60 .state .retries) (taken b 1)
+    ∙ ap (λ (k : Lookup). counted k (verdictOf (waiting 1) found (guess b) []) (waiting 1) (replicate 16 1) 60 .state .retries) (looked-up one)
 
-thrifty-two : (b : ℕ) → (replicate 24 b ≡ due → ⊥) → thrifty two (waiting 1) (call b) .state .retries ≡ 0
+counted-two : (b : ℕ) → (replicate 24 b ≡ due → ⊥) → countsKnown two (waiting 1) (call b) .state .retries ≡ 0
 unfolding nameOf userOf userStart startFrom lookups actOf actBy wrongOf failOf rejectOf asks asked fitting same nextId chapOf failureRequest failureMessage chapPacket header decimal decimals cells hexAt hexDigit pick
-thrifty-two b h =
-    ap (λ (u : Turn). thriftyTurn u (waiting 1) (guess b) (tables two) (replicate 16 1) 60 .state .retries) (taken b 1)
-    ∙ ap (λ (k : Lookup). thriftily k (verdictOf (waiting 1) found (guess b) (tables two)) (waiting 1) (replicate 16 1) 60 .state .retries) (looked-up two)
+counted-two b h =
+    ap (λ (u : Turn). countedTurn u (waiting 1) (guess b) (tables two) (replicate 16 1) 60 .state .retries) (taken b 1)
+    ∙ ap (λ (k : Lookup). counted k (verdictOf (waiting 1) found (guess b) (tables two)) (waiting 1) (replicate 16 1) 60 .state .retries) (looked-up two)
     ∙ ap (λ (v : Verdict). actOf v (waiting 1) (replicate 16 1) 60 .state .retries) (verdict-wrong two (waiting 1) (guess b) tables (replicate 16 1) (replicate 60 0) found (taken b 1) (not-right b 1 h two))
 
-pub thrifty-breaks : WrongGuessRule thrifty → ⊥
+pub counts-known-breaks : WrongGuessRule countsKnown → ⊥
 unfolding run
-thrifty-breaks rule =
+counts-known-breaks rule =
     guessed (λ b h.
-    let e : run thrifty one (waiting 1) (call b ∷ []) ≡ run thrifty two (waiting 1) (call b ∷ []) = rule (waiting 1) (call b ∷ []) (λ x. (not-right b 1 h x, tt)) in
-    let z : _≡_ {A = ℕ} 1 0 = sym (thrifty-one b) ∙ ap retriesLeft e ∙ thrifty-two b h in
+    let e : run countsKnown one (waiting 1) (call b ∷ []) ≡ run countsKnown two (waiting 1) (call b ∷ []) = rule (waiting 1) (call b ∷ []) (λ x. (not-right b 1 h x, tt)) in
+    let z : _≡_ {A = ℕ} 1 0 = sym (counted-one b) ∙ ap retriesLeft e ∙ counted-two b h in
     omega arith)

@@ -1,0 +1,200 @@
+-- What a call writes reads back at the peer's end as the packet meant; and so does the outstanding request, over any calls on from a made server.
+use Prim.Native.Nat.{ℕ, _+_, _≤_}
+use mathlib.Core.Path.{_≡_, refl, sym, ap, _∙_}
+use mathlib.Core.Bool.{true}
+use mathlib.Core.Logic.{_⊎_, inl, inr}
+use mathlib.Core.List.{List, [], _∷_, _++_}
+use native.Mathlib.Omega.{arith}
+use lib.ListN.{length, drop}
+use lib.Dec.{eqb}
+use borrow.Author.Tests.{eqb-true}
+use Rattle.octets.specs.Choice.{pick}
+use Rattle.octets.specs.Lists.{cells}
+use Rattle.octets.specs.Octets.{AreOctets, hexAt, decimal}
+use Rattle.octets.proofs.Exits.{clash, tested, or-none}
+use Rattle.octets.proofs.Decimals.{length-decimal-3}
+use Rattle.answer.specs.Outcome.{gives, Outcome}
+use Rattle.answer.specs.declared.Identifier.{Identifier}
+use Rattle.packet.specs.declared.End.the-variants as end
+use Rattle.packet.specs.declared.Kind.{Kind}
+use Rattle.packet.specs.declared.Kind.the-variants as kind
+use Rattle.packet.specs.declared.Packet.{Packet}
+use Rattle.packet.specs.Forms.{challengePacket, successRequest, failureRequest, eapSuccess, eapFailure}
+use Rattle.packet.specs.Reader.{failureOf, readPacket, reading, place, nowhere}
+use Rattle.packet.proofs.Back.{Back, challenge-back, success-request-back, failure-request-back, eap-success-back, eap-failure-back}
+use Rattle.packet.proofs.Sizes.{length-challengePacket, length-successRequest, length-failureRequest-60}
+use Rattle.accounts.specs.Accounts.{isCode}
+use Rattle.verdict.specs.declared.Mark.the-variants.{Right}
+use Rattle.verdict.specs.Verdict.{judgeOf}
+use Rattle.verdict.proofs.Rightness.{right-code, right-string}
+use Rattle.server.specs.declared.Stage.{Stage}
+use Rattle.server.specs.declared.Stage.the-variants.{Begin, ChallengeSent, SuccessRequestSent, FailureRequestSent, Success, Failed}
+use Rattle.server.specs.declared.Server.{Server}
+use Rattle.server.specs.State.{storedRequest, nextId, chapOf, fresh as made, asked, staged}
+use Rattle.server.specs.Moves.{sent}
+use Rattle.server.specs.Calls.{verdictOf}
+use Rattle.server.specs.Guess.{Side, Call, resends, outcomeOf, Answered, serverStep, stateAfter}
+use Rattle.server.specs.Effects.{Verdicts, Effect, refusing, starting, granting, denying, retrying, rejecting, confirming, ending, resending}
+use Rattle.server.proofs.Laws.{failure-fits, start-named}
+use Rattle.server.proofs.Effects.{effect}
+use Rattle.server.proofs.Promises.{Lent, AllLent, resends-stored, stored-asked}
+
+-- ---- what a right verdict hands on: a string of octets, and a code that is 0 or has three digits
+coded : (c : ℕ) → isCode c ≡ true → (c ≡ 0 → ⊥) → (100 ≤ c) × (c ≤ 999)
+unfolding isCode
+coded c e z =
+    tested (eqb c 0) (λ a. absurd (z (eqb-true _ _ a)))
+    (λ a. tested (eqb c 646) (λ b. known (eqb-true _ _ b) (omega arith) (omega arith))
+    (λ b. tested (eqb c 647) (λ d. known (eqb-true _ _ d) (omega arith) (omega arith))
+    (λ d. tested (eqb c 648) (λ f. known (eqb-true _ _ f) (omega arith) (omega arith))
+    (λ f. tested (eqb c 649) (λ g. known (eqb-true _ _ g) (omega arith) (omega arith))
+    (λ g. clash (or-none _ _ a (or-none _ _ b (or-none _ _ d (or-none _ _ f g)))) e)))))
+  where
+    known : {k : ℕ} → c ≡ k → 100 ≤ k → k ≤ 999 → (100 ≤ c) × (c ≤ 999)
+    known q l m = (omega arith, omega arith)
+
+module _ {x : Side} {s : Server} {packet : List ℕ} {tables : Side → List ℕ} {code : ℕ} {string : List ℕ} (v : Verdicts x s packet tables Right code string) where
+  string-octets : AreOctets string
+  unfolding verdictOf judgeOf
+  string-octets k = rw (v .made) at (right-string _ _ _ _ _ (v .marked) k)
+
+  code-three : (code ≡ 0 → ⊥) → (100 ≤ code) × (code ≤ 999)
+  unfolding verdictOf judgeOf
+  code-three z = coded code (rw (v .coded) at (right-code _ _ _ _ _ (v .marked))) z
+
+-- ---- the packets meant
+abbrev pub ChallengeMeant : Identifier → List ℕ → List ℕ → Type 0
+ChallengeMeant id challenge name =
+    Back end.Peer (challengePacket (id .0) (chapOf id .0) challenge name)
+    (reading kind.Challenge (id .0) (id .0) (26 + length name) 0 (place 10 16) nowhere (place 26 (length name))) challenge [] name
+
+abbrev pub SuccessMeant : Server → List ℕ → Type 0
+SuccessMeant s string =
+    Back end.Peer (successRequest (nextId (s .id) .0) (chapOf (nextId (s .id)) .0) string [])
+    (reading kind.SuccessRequest (nextId (s .id) .0) (nextId (s .id) .0) 54 0 nowhere (place 11 40) (place 54 0)) [] (cells 40 (hexAt string)) []
+
+-- a Failure Request, L = 60
+abbrev pub FailureMeant : Server → ℕ → ℕ → List ℕ → Type 0
+FailureMeant s code retry fresh =
+    Back end.Peer (failureRequest (nextId (s .id) .0) (chapOf (nextId (s .id)) .0) code retry fresh [])
+    (reading (failureOf retry) (nextId (s .id) .0) (nextId (s .id) .0) 60 code (place 21 32) nowhere (place 60 0)) (cells 32 (hexAt fresh)) [] []
+
+challenge-meant : (id : Identifier) (challenge name : List ℕ) → length challenge ≡ 16 → (1 ≤ length name) × (length name ≤ 256) → ChallengeMeant id challenge name
+unfolding chapOf
+challenge-meant id challenge name z n =
+    challenge-back (id .0) (id .0) challenge name z (n .0) (omega (arith, n .1))
+
+success-meant : (s : Server) (string : List ℕ) → AreOctets string → SuccessMeant s string
+unfolding chapOf
+success-meant s string o = success-request-back (nextId (s .id) .0) (nextId (s .id) .0) string [] o (omega arith)
+
+failure-meant : (s : Server) (code retry : ℕ) (fresh : List ℕ) → (100 ≤ code) × (code ≤ 999) → retry ≤ 1 → AreOctets fresh → FailureMeant s code retry fresh
+unfolding chapOf
+failure-meant s code retry fresh c r o =
+    let e : length (decimal code) ≡ 3 = length-decimal-3 code (c .0) (c .1) in
+    rw e at (failure-request-back (nextId (s .id) .0) (nextId (s .id) .0) code retry fresh [] (omega (arith, c .1)) r o (rw e (omega arith)))
+
+-- what the peer's reader makes of what each effect writes
+module _ (x : Side) (s : Server) where
+  abbrev pub Meant : {c : Call} {o : Outcome Server} → Effect x s c o → Type 0
+  Meant (refusing k l) = Unit {0}
+  Meant (starting {id} {challenge} {name} b f) = ChallengeMeant id challenge name
+  Meant (granting string v) = SuccessMeant s string
+  Meant (denying {fresh = fresh} code string v n d) = FailureMeant s code 0 fresh
+  Meant (retrying {fresh = fresh} code string v n d) = FailureMeant s 691 1 fresh
+  Meant (rejecting {fresh = fresh} code string v n d) = FailureMeant s 691 0 fresh
+  Meant (confirming k u t) = Back end.Peer (eapSuccess (k .id .0)) (reading kind.EapSuccess (k .id .0) 0 4 0 nowhere nowhere nowhere) [] [] []
+  Meant (ending k u t) = Back end.Peer (eapFailure (k .id .0)) (reading kind.EapFailure (k .id .0) 0 4 0 nowhere nowhere nowhere) [] [] []
+  Meant (resending e) = Unit {0}
+
+  meant : {c : Call} {o : Outcome Server} (e : Effect x s c o) → Lent c → Meant e
+  meant (refusing k l) z = tt
+  meant (starting {id} {challenge} {name} b f) z = challenge-meant id challenge name z (start-named (length name) _ f)
+  meant (granting string v) z = success-meant s string (string-octets v)
+  meant (denying code string v n d) z = failure-meant s code 0 _ (code-three v n) (omega arith) (z .1)
+  meant (retrying code string v n d) z = failure-meant s 691 1 _ (omega arith) (omega arith) (z .1)
+  meant (rejecting code string v n d) z = failure-meant s 691 0 _ (omega arith) (omega arith) (z .1)
+  meant (confirming k u t) z = eap-success-back (k .id .0)
+  meant (ending k u t) z = eap-failure-back (k .id .0)
+  meant (resending e) z = tt
+
+-- what a call writes is the packet that its effect names, read back at the peer's end whatever stands behind it in the buffer
+pub reads-back : (x : Side) (s : Server) (c : Call) → Lent c → Meant x s (effect x s c)
+reads-back x s c z = meant x s (effect x s c) z
+
+-- ---- the outstanding request
+-- the kind of request that a stage has outstanding
+abbrev pub Waits : Stage → Kind → Type 0
+Waits Begin k = ⊥
+Waits ChallengeSent k = (k ≡ kind.Challenge) ⊎ (k ≡ kind.RetryRequest)
+Waits SuccessRequestSent k = k ≡ kind.SuccessRequest
+Waits FailureRequestSent k = k ≡ kind.FailureRequest
+Waits Success k = ⊥
+Waits Failed k = ⊥
+
+-- it reads back, whole and under the outstanding numbers; L is its length, which is n of a resend
+pub record Outstanding (s : Server) : Type 0 where
+  pub packet : Packet
+  pub reads : (pad : List ℕ) → readPacket end.Peer (storedRequest s ++ pad) ≡ gives packet
+  pub waits : Waits (s .stage) (packet .kind)
+  pub id : packet .id .0 ≡ s .id .0
+  pub chapid : packet .chapid .0 ≡ s .chapid .0
+  pub size : packet .length ≡ length (storedRequest s)
+
+outstanding-asked : (stage : Stage) (id : Identifier) (challenge : List ℕ) (retries : ℕ) (q : List ℕ) {k : Packet} {c r t : List ℕ} → Back end.Peer q k c r t → length q ≤ 282
+    → Waits stage (k .kind) → k .id .0 ≡ id .0 → k .chapid .0 ≡ id .0 → k .length ≡ length q → Outstanding (asked stage id challenge retries q)
+unfolding asked chapOf
+outstanding-asked stage id challenge retries q {k} b l w i h n =
+    let e = stored-asked stage id challenge retries q l in
+    record { packet = k; reads = λ pad. rw e (b .reads pad); waits = w; id = i; chapid = h; size = rw e n }
+
+module _ (x : Side) (s : Server) (before : sent (s .stage) ≡ true → Outstanding s) where
+  outstanding-after : {c : Call} {o : Outcome Server} → Effect x s c o → Lent c → sent (o .state .stage) ≡ true → Outstanding (o .state)
+  unfolding asked staged failureOf pick
+  outstanding-after (refusing k l) z g = before g
+  outstanding-after (starting {id} {challenge} {name} b f) z g =
+      let l = length-challengePacket (id .0) (chapOf id .0) challenge name z in
+      let n = start-named (length name) _ f in
+      outstanding-asked _ _ _ _ _ (challenge-meant id challenge name z n) (omega (arith, l, n .1)) (inl refl) refl refl (sym l)
+  outstanding-after (granting string v) z g =
+      let l = length-successRequest (nextId (s .id) .0) (chapOf (nextId (s .id)) .0) string [] in
+      outstanding-asked _ _ _ _ _ (success-meant s string (string-octets v)) (omega (arith, l)) refl refl refl (sym l)
+  outstanding-after (denying {fresh = fresh} code string v n d) z g =
+      let c = code-three v n in
+      outstanding-asked _ _ _ _ _ (failure-meant s code 0 fresh c (omega arith) (z .1)) (failure-fits _ _ code 0 fresh) refl refl refl (sym (length-failureRequest-60 _ _ code 0 fresh (c .0) (c .1)))
+  outstanding-after (retrying {fresh = fresh} code string v n d) z g =
+      outstanding-asked _ _ _ _ _ (failure-meant s 691 1 fresh (omega arith) (omega arith) (z .1)) (failure-fits _ _ 691 1 fresh) (rw (v .taken .stage) (inr refl)) refl refl
+      (sym (length-failureRequest-60 _ _ 691 1 fresh (omega arith) (omega arith)))
+  outstanding-after (rejecting {fresh = fresh} code string v n d) z g =
+      outstanding-asked _ _ _ _ _ (failure-meant s 691 0 fresh (omega arith) (omega arith) (z .1)) (failure-fits _ _ 691 0 fresh) refl refl refl
+      (sym (length-failureRequest-60 _ _ 691 0 fresh (omega arith) (omega arith)))
+  outstanding-after (confirming k u t) z g = clash refl g
+  outstanding-after (ending k u t) z g = clash refl g
+  outstanding-after (resending e) z g = before g
+
+outstanding-on : (x : Side) (s : Server) (cs : List Call) → (sent (s .stage) ≡ true → Outstanding s) → AllLent cs → sent (stateAfter serverStep x s cs .stage) ≡ true → Outstanding (stateAfter serverStep x s cs)
+unfolding stateAfter serverStep
+outstanding-on x s [] before l g = before g
+outstanding-on x s (c ∷ cs) before l g =
+    outstanding-on x (outcomeOf x s c .state) cs (outstanding-after x s before (effect x s c) (l .0)) (l .1) g
+
+-- over any calls on from a made server
+pub outstanding : (x : Side) (cs : List Call) → AllLent cs → sent (stateAfter serverStep x made cs .stage) ≡ true → Outstanding (stateAfter serverStep x made cs)
+unfolding made
+outstanding x cs l g = outstanding-on x made cs (λ e. clash refl e) l g
+
+-- a resend then has n = L, and what it writes is read as that packet
+pub resend-reads : (x : Side) (cs : List Call) (reply : List ℕ) (l : AllLent cs) (g : sent (stateAfter serverStep x made cs .stage) ≡ true)
+    → length (storedRequest (stateAfter serverStep x made cs)) ≤ length reply
+    → let a = serverStep x (stateAfter serverStep x made cs) (resends reply) in
+    (a .number ≡ 0) × ((a .n ≡ outstanding x cs l g .packet .length) × (readPacket end.Peer (a .reply) ≡ gives (outstanding x cs l g .packet)))
+resend-reads x cs reply l g r =
+    let s = stateAfter serverStep x made cs in
+    let o = outstanding x cs l g in
+    let e = resends-stored x s reply g r in (
+      ap (λ (a : Answered). a .number) e,
+      (
+        ap (λ (a : Answered). a .n) e ∙ sym (o .size),
+        ap (λ (a : Answered). readPacket end.Peer (a .reply)) e ∙ o .reads (drop (length (storedRequest s)) reply),
+      ),
+    )
