@@ -1,0 +1,18 @@
+use Rattle.peer.specs.State.{lastReply, nameOf, responded}
+use Rattle.peer.specs.Calls.{challengeIn, responseIn, respondedTo}
+use borrow.Author.Needs.{needs}
+use Rattle.peer.proofs.Peer.responded.Statement.{statement}
+use Rattle.peer.proofs.Peer.responded.Tie as tie
+
+pub responded-spec : {M : Type 1} → statement M
+unfolding respondedTo responded responseIn nameOf challengeIn lastReply
+responded-spec =
+    tie.close
+    (tie.spec
+    (λ c κs. search needs)
+    (λ c κs. search needs)
+    (λ c κs. search needs)
+    (λ c. search needs)
+    (λ c κs. search needs)
+    (λ c. search needs)
+    (λ c. record { is = cc; front = cc }))

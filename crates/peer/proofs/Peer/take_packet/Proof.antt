@@ -1,0 +1,14 @@
+use Rattle.answer.proofs.Outcomes.{does-by}
+use Rattle.peer.proofs.Readings.{front}
+use borrow.Author.Needs.{needs}
+use Rattle.peer.proofs.Peer.take_packet.Statement.{statement}
+use Rattle.peer.proofs.Peer.take_packet.Tie as tie
+
+pub take-packet-spec : {M : Type 1} → statement M
+take-packet-spec =
+    tie.close
+    (tie.spec
+    (λ c κs. search needs)
+    (λ c κs. search (needs, front))
+    (λ c. search needs)
+    (λ c. does-by _ _ _ _ _ _ _ (c .before .before .taken .ensures) (cc)))

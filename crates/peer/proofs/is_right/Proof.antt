@@ -1,0 +1,12 @@
+use borrow.Author.Needs.{needs}
+use Rattle.peer.proofs.is_right.Statement.{statement}
+use Rattle.peer.proofs.is_right.Tie as tie
+
+pub is-right-spec : {M : Type 1} → statement M
+is-right-spec =
+    tie.close
+    (tie.spec
+    (λ c κs. search needs)
+    (λ c. search needs)
+    (λ c κs. search needs)
+    (λ c. cc))
