@@ -1,6 +1,9 @@
 // Runs the cases of standard input, a line each, and writes the name, the answer's number and the result of each.
+use ends::Ends;
+
 mod ciphers;
 mod digests;
+mod ends;
 mod responses;
 mod script;
 mod tables;
@@ -55,18 +58,52 @@ fn run_table(line: &[u8]) {
     }
 }
 
+fn run_peer(line: &[u8], e: Ends) -> Ends {
+    if script::named(line, b"peer") {
+        return ends::make_peer(line, e);
+    }
+    if script::named(line, b"step") {
+        return ends::step(line, e);
+    }
+    if script::named(line, b"supply") {
+        return ends::supply(line, e);
+    }
+    if script::named(line, b"give_up") {
+        return ends::give_up(e);
+    }
+    e
+}
+
+fn run_server(line: &[u8], e: Ends) -> Ends {
+    if script::named(line, b"server") {
+        return ends::make_server(e);
+    }
+    if script::named(line, b"start") {
+        return ends::start(line, e);
+    }
+    if script::named(line, b"packet") {
+        return ends::packet(line, e);
+    }
+    if script::named(line, b"resend") {
+        return ends::resend(e);
+    }
+    e
+}
+
 // One line. A line that begins with none of the names is a comment.
-fn run_line(line: &[u8]) {
+fn run_line(line: &[u8], e: Ends) -> Ends {
     run_digest(line);
     run_response(line);
     run_table(line);
+    run_server(line, run_peer(line, e))
 }
 
 fn run(text: &[u8]) {
+    let mut e = ends::fresh();
     let mut at = 0;
     while at < text.len() {
         let end = script::find(text, at, b'\n');
-        run_line(&text[at..end]);
+        e = run_line(&text[at..end], e);
         at = end + 1;
     }
 }

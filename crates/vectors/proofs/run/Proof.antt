@@ -8,8 +8,9 @@ pub run-spec : {M : Type 1} → statement M
 run-spec =
     tie.close
     (tie.spec
-    (λ text _ at. at ≤ length text + 1)
-    (λ text _ at. length text + 1 - at)
+    (λ text _ _ _ at. at ≤ length text + 1)
+    (λ text _ _ _ at. length text + 1 - at)
+    (λ c κs. search needs)
     (λ c. search needs)
     (λ c κs. search needs)
     (λ c. search needs)

@@ -1,0 +1,16 @@
+use Rattle.calls.proofs.Laws.{keeps-so, keeps-not}
+use borrow.Author.Needs.{needs}
+use Rattle.calls.proofs.keep_peer.Statement.{statement}
+use Rattle.calls.proofs.keep_peer.Tie as tie
+
+pub keep-peer-spec : {M : Type 1} → statement M
+keep-peer-spec =
+    tie.close
+    (tie.spec
+    (λ c κs. search needs)
+    (λ c κs. search needs)
+    (λ c κs. search needs)
+    (λ c. search needs)
+    (λ c. search (needs, keeps-so))
+    (λ c κs. search needs)
+    (λ c. search (needs, keeps-not)))

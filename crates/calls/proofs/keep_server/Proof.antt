@@ -1,0 +1,16 @@
+use Rattle.calls.proofs.Laws.{keeps-so, keeps-not}
+use borrow.Author.Needs.{needs}
+use Rattle.calls.proofs.keep_server.Statement.{statement}
+use Rattle.calls.proofs.keep_server.Tie as tie
+
+pub keep-server-spec : {M : Type 1} → statement M
+keep-server-spec =
+    tie.close
+    (tie.spec
+    (λ c κs. search needs)
+    (λ c κs. search needs)
+    (λ c κs. search needs)
+    (λ c. search needs)
+    (λ c. search (needs, keeps-so))
+    (λ c κs. search needs)
+    (λ c. search (needs, keeps-not)))

@@ -1,0 +1,11 @@
+use borrow.Author.Needs.{needs}
+use Rattle.calls.proofs.read_as.Statement.{statement}
+use Rattle.calls.proofs.read_as.Tie as tie
+
+pub read-as-spec : {M : Type 1} → statement M
+read-as-spec =
+    tie.close
+    (tie.spec
+    (λ c κs. search needs)
+    (λ c κs. search needs)
+    (λ c. cc))

@@ -1,0 +1,51 @@
+-- What a call at the boundary does, in octets: the word that it answers, and the lent octets afterwards.
+use Prim.Native.Nat.{ℕ, _+_, _*_, _%_}
+use mathlib.Core.Path.{_≡_}
+use mathlib.Core.List.{List}
+use lib.ListN.{length}
+use lib.Dec.{ltb}
+use Rattle.octets.specs.Choice.{pick}
+use Rattle.octets.specs.Lists.{over}
+use Rattle.answer.specs.Outcome.{Told, Outcome}
+
+-- the paper's number in bits 0 to 7, n in bits 8 to 31, and zeros above
+unfoldable pub wordOf : ℕ → ℕ → ℕ
+wordOf number n = number + n % 16777216 * 256
+
+-- ---- a call of an end: its word, the state's octets and the reply buffer
+pub record Done : Type 0 where
+  pub word : ℕ
+  pub state : List ℕ
+  pub reply : List ℕ
+
+abbrev pub done : ℕ → List ℕ → List ℕ → Done
+done word state reply = record { word = word; state = state; reply = reply }
+
+-- a slice of the wrong size where a fixed size is due: 23, "and nothing changes"
+abbrev pub unsized : List ℕ → List ℕ → Done
+unsized state reply = done 23 state reply
+
+-- what an end did, from those octets on. "On a refusal no octet of the state is written": from number 10 up
+unfoldable pub ended : {S : Type 0} → (S → List ℕ) → Outcome S → List ℕ → List ℕ → Done
+ended octetsOf o state reply =
+    done (wordOf (o .number) (length (o .octets))) (pick (ltb (o .number) 10) (octetsOf (o .state)) state) (over (o .octets) reply)
+
+-- the word and the state's octets after a call that answered number and n; q are the octets of the state that it left
+pub record Keeps (number n : ℕ) (q before : List ℕ) (word : ℕ) (after : List ℕ) : Type 0 where
+  pub answered : word ≡ wordOf number n
+  pub left : after ≡ pick (ltb number 10) q before
+
+-- ---- a call without a state: its word and the output buffer
+pub record Made : Type 0 where
+  pub word : ℕ
+  pub output : List ℕ
+
+abbrev pub made : ℕ → List ℕ → Made
+made word output = record { word = word; output = output }
+
+-- "Stateless calls that refuse write nothing"
+unfoldable pub given : ℕ → List ℕ → List ℕ → Made
+given number q output = made (wordOf number 0) (pick (ltb number 10) q output)
+
+unfoldable pub givenBy : Told (List ℕ) → List ℕ → Made
+givenBy t output = given (t .number) (t .value) output

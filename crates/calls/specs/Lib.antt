@@ -1,0 +1,4 @@
+pub mod Done
+pub mod Ends
+pub mod Stateless
+pub mod Run

@@ -1,0 +1,28 @@
+use Rattle.state.proofs.Trips.{peer-read}
+use borrow.Author.Needs.{needs}
+use Rattle.state.proofs.decode_peer.Statement.{statement}
+use Rattle.state.proofs.decode_peer.Tie as tie
+
+pub decode-peer-spec : {M : Type 1} → statement M
+decode-peer-spec =
+    tie.close
+    (tie.spec
+    (λ c. search needs)
+    (λ c κs. search needs)
+    (λ c. search needs)
+    (λ c κs. search needs)
+    (λ c. search needs)
+    (λ c κs. search needs)
+    (λ c. search needs)
+    (λ c κs. search needs)
+    (λ c. search needs)
+    (λ c κs. search needs)
+    (λ c. search needs)
+    (λ c κs. search needs)
+    (λ c κs. search needs)
+    (λ c κs. search needs)
+    (λ c κs. search needs)
+    (λ c κs. search needs)
+    (λ c κs. search needs)
+    (λ c κs. search needs)
+    (λ c. search (needs, peer-read)))
