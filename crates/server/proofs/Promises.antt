@@ -16,6 +16,7 @@ use Rattle.answer.specs.Outcome.{Outcome, outcome, refused}
 use Rattle.answer.proofs.Outcomes.{fitting-so}
 use Rattle.answer.specs.declared.Identifier.{Identifier}
 use Rattle.packet.specs.Forms.{header, chapPacket, challengePacket, successRequest, failureRequest, eapSuccess, eapFailure}
+use Rattle.packet.proofs.Sizes.{length-challengePacket, length-successRequest}
 use Rattle.server.specs.declared.Stage.{Stage}
 use Rattle.server.specs.declared.Server.{Server}
 use Rattle.server.specs.State.{storedRequest, nextId, chapOf, asked, staged}
@@ -25,7 +26,6 @@ use Rattle.server.specs.Guess.{Side, Call, starts, brings, resends, repl
 use Rattle.server.specs.Effects.{Effect, refusing, starting, granting, denying, retrying, rejecting, confirming, ending, resending}
 use Rattle.server.proofs.Laws.{failure-fits, start-named}
 use Rattle.server.proofs.Effects.{effect}
-use Rattle.packet.proofs.Sizes.{length-challengePacket, length-successRequest}
 
 -- ---- "Numbers from 10 up change no state and no lent octet, and n = 0."
 pub refusals : (x : Side) (s : Server) (c : Call) → 10 ≤ serverStep x s c .number → serverStep x s c ≡ record { number = serverStep x s c .number; n = 0; reply = replyOf c; state = s }
@@ -52,21 +52,22 @@ pub record Numbered (number : ℕ) (o : Outcome Server) : Type 0 where
   pub written-chapid : getD (o .octets) 6 0 ≡ number
 
 -- a start has the lent Identifier, and a packet the next one
-abbrev pub numberOf : Server → Call → ℕ
-numberOf s (starts id challenge name retries reply) = id .0
-numberOf s (brings packet tables fresh reply) = (s .id .0 + 1) % 256
-numberOf s (resends reply) = s .id .0
+abbrev pub requestNumber : Server → Call → ℕ
+requestNumber s (starts id challenge name retries reply) = id .0
+requestNumber s (brings packet tables fresh reply) = (s .id .0 + 1) % 256
+requestNumber s (resends reply) = s .id .0
 
+-- start and packet, which can make a request; a resend repeats one
 abbrev pub Asks : Call → Type 0
 Asks (starts id challenge name retries reply) = Unit {0}
 Asks (brings packet tables fresh reply) = Unit {0}
 Asks (resends reply) = ⊥
 
-pub requests-numbered : (x : Side) (s : Server) (c : Call) → Asks c → outcomeOf x s c .number ≡ 0 → Numbered (numberOf s c) (outcomeOf x s c)
+pub requests-numbered : (x : Side) (s : Server) (c : Call) → Asks c → outcomeOf x s c .number ≡ 0 → Numbered (requestNumber s c) (outcomeOf x s c)
 unfolding challengePacket successRequest failureRequest chapPacket header nextId chapOf asked
 requests-numbered x s c = go (effect x s c)
   where
-    go : {c : Call} {o : Outcome Server} → Effect x s c o → Asks c → o .number ≡ 0 → Numbered (numberOf s c) o
+    go : {c : Call} {o : Outcome Server} → Effect x s c o → Asks c → o .number ≡ 0 → Numbered (requestNumber s c) o
     go (refusing k l) a h = absurd (omega arith)
     go (starting b f) a h = record { id = refl; chapid = refl; written-id = refl; written-chapid = refl }
     go (granting t v) a h = record { id = refl; chapid = refl; written-id = refl; written-chapid = refl }

@@ -10,7 +10,8 @@ use lib.Dec.{eqb}
 use borrow.Author.Tests.{eqb-true}
 use Rattle.octets.specs.Choice.{pick}
 use Rattle.octets.specs.Lists.{cells}
-use Rattle.octets.specs.Octets.{AreOctets, hexAt, decimal}
+use Rattle.octets.specs.Octets.{AreOctets, numberAt, hexAt, decimal}
+use Rattle.octets.specs.declared.Order.the-variants.{Big}
 use Rattle.octets.proofs.Exits.{clash, tested, or-none}
 use Rattle.octets.proofs.Decimals.{length-decimal-3}
 use Rattle.answer.specs.Outcome.{gives, Outcome}
@@ -22,6 +23,7 @@ use Rattle.packet.specs.declared.Packet.{Packet}
 use Rattle.packet.specs.Forms.{challengePacket, successRequest, failureRequest, eapSuccess, eapFailure}
 use Rattle.packet.specs.Reader.{failureOf, readPacket, reading, place, nowhere}
 use Rattle.packet.proofs.Back.{Back, challenge-back, success-request-back, failure-request-back, eap-success-back, eap-failure-back}
+use Rattle.packet.proofs.Readings.{tells}
 use Rattle.packet.proofs.Sizes.{length-challengePacket, length-successRequest, length-failureRequest-60}
 use Rattle.accounts.specs.Accounts.{isCode}
 use Rattle.verdict.specs.declared.Mark.the-variants.{Right}
@@ -33,11 +35,11 @@ use Rattle.server.specs.declared.Server.{Server}
 use Rattle.server.specs.State.{storedRequest, nextId, chapOf, fresh as made, asked, staged}
 use Rattle.server.specs.Moves.{sent}
 use Rattle.server.specs.Calls.{verdictOf}
-use Rattle.server.specs.Guess.{Side, Call, resends, outcomeOf, Answered, serverStep, stateAfter}
+use Rattle.server.specs.Guess.{Side, Call, resends, replyOf, outcomeOf, Answered, answered, serverStep, stateAfter}
 use Rattle.server.specs.Effects.{Verdicts, Effect, refusing, starting, granting, denying, retrying, rejecting, confirming, ending, resending}
 use Rattle.server.proofs.Laws.{failure-fits, start-named}
 use Rattle.server.proofs.Effects.{effect}
-use Rattle.server.proofs.Promises.{Lent, AllLent, resends-stored, stored-asked}
+use Rattle.server.proofs.Promises.{Asks, Lent, AllLent, resends-stored, stored-asked}
 
 -- ---- what a right verdict hands on: a string of octets, and a code that is 0 or has three digits
 coded : (c : ℕ) → isCode c ≡ true → (c ≡ 0 → ⊥) → (100 ≤ c) × (c ≤ 999)
@@ -121,6 +123,31 @@ module _ (x : Side) (s : Server) where
 -- what a call writes is the packet that its effect names, read back at the peer's end whatever stands behind it in the buffer
 pub reads-back : (x : Side) (s : Server) (c : Call) → Lent c → Meant x s (effect x s c)
 reads-back x s c z = meant x s (effect x s c) z
+
+-- ---- "n equals the written packet's L"
+size-of : (q pad : List ℕ) {k : Packet} {c r t : List ℕ} → Back end.Peer q k c r t → k .length ≡ length q → length q ≡ numberAt Big (q ++ pad) 2
+size-of q pad {k} b e = sym e ∙ tells end.Peer (q ++ pad) k (b .reads pad) .size
+
+failure-size : (s : Server) (code retry : ℕ) (fresh pad : List ℕ) → (100 ≤ code) × (code ≤ 999) → retry ≤ 1 → AreOctets fresh
+    → let q = failureRequest (nextId (s .id) .0) (chapOf (nextId (s .id)) .0) code retry fresh [] in length q ≡ numberAt Big (q ++ pad) 2
+failure-size s code retry fresh pad c r o = size-of _ pad (failure-meant s code retry fresh c r o) (sym (length-failureRequest-60 _ _ code retry fresh (c .0) (c .1)))
+
+pub n-is-L : (x : Side) (s : Server) (c : Call) → Lent c → Asks c → serverStep x s c .number ≤ 3 → serverStep x s c .n ≡ numberAt Big (serverStep x s c .reply) 2
+unfolding serverStep
+n-is-L x s c = go (effect x s c)
+  where
+    go : {c : Call} {o : Outcome Server} → Effect x s c o → Lent c → Asks c → o .number ≤ 3 → answered o (replyOf c) .n ≡ numberAt Big (answered o (replyOf c) .reply) 2
+    go (refusing k l) z a h = absurd (omega arith)
+    go (starting {id} {challenge} {name} b f) z a h =
+        size-of _ _ (challenge-meant id challenge name z (start-named (length name) _ f)) (sym (length-challengePacket (id .0) (chapOf id .0) challenge name z))
+    go (granting string v) z a h =
+        size-of _ _ (success-meant s string (string-octets v)) (sym (length-successRequest (nextId (s .id) .0) (chapOf (nextId (s .id)) .0) string []))
+    go (denying {fresh = fresh} code string v n d) z a h = failure-size s code 0 fresh _ (code-three v n) (omega arith) (z .1)
+    go (retrying {fresh = fresh} code string v n d) z a h = failure-size s 691 1 fresh _ (omega arith) (omega arith) (z .1)
+    go (rejecting {fresh = fresh} code string v n d) z a h = failure-size s 691 0 fresh _ (omega arith) (omega arith) (z .1)
+    go (confirming k u t) z a h = size-of _ _ (eap-success-back (k .id .0)) refl
+    go (ending k u t) z a h = size-of _ _ (eap-failure-back (k .id .0)) refl
+    go (resending e) z a h = absurd a
 
 -- ---- the outstanding request
 -- the kind of request that a stage has outstanding
