@@ -5,3 +5,4 @@ pub mod Readings
 pub mod Order
 pub mod Exact
 pub mod Alike
+pub mod Places
