@@ -1,0 +1,1 @@
+// Both ends together: statements and their proofs, and no code of its own.
