@@ -43,11 +43,15 @@ length-mixed right key e =
     let k : length (permuted eTable right) ≡ 48 = length-permuted eTable right in
     length-xored (permuted eTable right) key (k ∙ sym e) ∙ k
 
-pub mixed-is : (right key : List ℕ) (i k b r : ℕ) → length key ≡ 48 → i < 48 → k ≡ getD eTable i 0 → b ≡ bitAt right k → r ≡ sumOf b (getD key i 0) → r ≡ getD (xored (permuted eTable right) key) i 0
+pub length-e : (table : List ℕ) → table ≡ eTable → length table ≡ 48
 unfolding eTable
-mixed-is right key i k b r e h ek eb er =
+length-e table t = ap length t
+
+pub mixed-is : (table right key : List ℕ) (i k b r : ℕ) → table ≡ eTable → length key ≡ 48 → i < 48 → k ≡ getD table i 0 → b ≡ bitAt right k → r ≡ sumOf b (getD key i 0) → r ≡ getD (xored (permuted eTable right) key) i 0
+unfolding eTable
+mixed-is table right key i k b r t e h ek eb er =
     let l : length (permuted eTable right) ≡ 48 = length-permuted eTable right in
-    er ∙ ap (λ (x : ℕ). sumOf x (getD key i 0)) (eb ∙ ap (bitAt right) ek ∙ sym (getD-permuted eTable right i h)) ∙ sym (getD-xored (permuted eTable right) key i (l ∙ sym e) (omega arith))
+    er ∙ ap (λ (x : ℕ). sumOf x (getD key i 0)) (eb ∙ ap (bitAt right) (ek ∙ ap (λ (l : List ℕ). getD l i 0) t) ∙ sym (getD-permuted eTable right i h)) ∙ sym (getD-xored (permuted eTable right) key i (l ∙ sym e) (omega arith))
 
 -- ---- R, and then a list t in the place of L
 module _ (lr t : List ℕ) (i : ℕ) (both : length lr ≡ 64) where
@@ -146,4 +150,4 @@ pub length-enciphered : (key block : List ℕ) → length (enciphered key block)
 unfolding enciphered
 length-enciphered key block = length-cells 8 _
 
-pub ruleset halves = (loops, fill-own, length-mixed, mixed-is, length-next, right-at, next-at, swap-done, swap-at, shift-done, round-none, round-more, round-done)
+pub ruleset halves = (loops, fill-own, length-mixed, length-e, mixed-is, length-next, right-at, next-at, swap-done, swap-at, shift-done, round-none, round-more, round-done)

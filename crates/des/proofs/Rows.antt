@@ -1,10 +1,11 @@
 -- Every row of the S-boxes is a permutation of 0 to 15: one test of the whole table, and what it says of each lookup.
 use Prim.Native.Nat.{ℕ, _+_, _*_, _/_, _%_, _<_}
 use native.Mathlib.Omega.{arith}
-use mathlib.Core.Path.{_≡_, refl, sym, ap₂, _∙_}
+use mathlib.Core.Path.{_≡_, refl, sym, ap₂, _∙_, subst}
 use mathlib.Core.Bool.{Bool, true, _&&_}
 use lib.Dec.{eqb, ltb}
-use lib.ListN.{getD, drop, length-drop}
+use mathlib.Core.List.{List}
+use lib.ListN.{length, getD, drop, length-drop}
 use lib.Seq.{length-take-le}
 use borrow.Author.Tests.{eqb-true, ltb-true}
 use Rattle.octets.specs.Choice.{pick}
@@ -36,5 +37,12 @@ pub rows : (r : ℕ) → r < 32 → Permutation (rowOf r)
 unfolding rowOf sTable
 rows r h = record { long = length-take-le 16 (drop (16 * r) sTable) (omega (arith, length-drop (16 * r) sTable)); each = λ v l. each-once r v h l }
 
-pub lookup : (k : ℕ) → k < 512 → LookedUp k (getD sTable k 0)
+lookup : (k : ℕ) → k < 512 → LookedUp k (getD sTable k 0)
 lookup k h = record { is = refl; small = entry-small k h; once = each-once (k / 16) (getD sTable k 0) (omega arith) (entry-small k h) }
+
+pub lookup-in : (s : List ℕ) (k : ℕ) → s ≡ sTable → k < 512 → LookedUp k (getD s k 0)
+lookup-in s k e h = subst (λ (l : List ℕ). LookedUp k (getD l k 0)) (sym e) (lookup k h)
+
+pub within : (s : List ℕ) (k : ℕ) → s ≡ sTable → k < 512 → k < length s
+unfolding sTable
+within s k e h = rw e h

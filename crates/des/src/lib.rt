@@ -4,7 +4,7 @@ ghost use Prim.Native.Nat.{_*_, _+_, _^_, _≤_, _<_};
 ghost use mathlib.Core.List.{_++_};
 ghost use lib.ListN.{length, getD, take, drop};
 ghost use Rattle.octets.specs.Lists.{cells};
-ghost use Rattle.des.specs.Tables.{ipTable, fpTable, eTable, pc1Table, pc2Table, shiftTable};
+ghost use Rattle.des.specs.Tables.{ipTable, fpTable, eTable, pc1Table, pc2Table, shiftTable, sTable};
 ghost use Rattle.des.specs.Bits.{bitAt, permuted, sumOf, xored, bitOf, bitsOf, numberOn, groupAt};
 ghost use Rattle.des.specs.Des.{boxOf, substituted, cipherFunction, shifted, roundOf, roundsOf, swapped, enciphered};
 ghost use Rattle.des.specs.Keys.{withParity, keyOctet, keyOctets};
@@ -119,44 +119,44 @@ fn pack(bits: &[u8]) -> [u8; 8]
 
 // ---- the cipher function
 
-// The number at a place of the S-boxes.
-fn looked_up(place: usize) -> u8
-    requires { ⌜ place < 512 ⌝ }
+// The number at a place of the S-boxes, which are lent: a constant would be laid out anew for each lookup.
+fn looked_up(s: &[u8], place: usize) -> u8
+    requires { ⌜ (now s ≡ sTable) × (place < 512) ⌝ }
     ensures { λ r. ⌜ LookedUp place r ⌝ }
 {
-    S[place]
+    s[place]
 }
 
 // What box n gives for six bits of the 48.
-fn box_at(bits: &[u8], n: usize) -> u8
-    requires { ⌜ (n < 8) × (length (now bits) ≡ 48) ⌝ }
+fn box_at(s: &[u8], bits: &[u8], n: usize) -> u8
+    requires { ⌜ (now s ≡ sTable) × (n < 8) × (length (now bits) ≡ 48) ⌝ }
     ensures { λ r. ⌜ r ≡ boxOf (now (bits .entry)) n ⌝ }
 {
     let x = group_at(6, bits, n);
-    looked_up(64 * n + 16 * (2 * (x / 32 % 2) + x % 2) + x / 2 % 16)
+    looked_up(s, 64 * n + 16 * (2 * (x / 32 % 2) + x % 2) + x / 2 % 16)
 }
 
 // The numbers of the eight boxes.
-fn boxes(bits: &[u8]) -> [u8; 8]
-    requires { ⌜ length (now bits) ≡ 48 ⌝ }
+fn boxes(s: &[u8], bits: &[u8]) -> [u8; 8]
+    requires { ⌜ (now s ≡ sTable) × (length (now bits) ≡ 48) ⌝ }
     ensures { λ r. ⌜ r ≡ cells 8 (boxOf (now (bits .entry))) ⌝ }
 {
     let mut out = [0u8; 8];
     let mut n = 0;
     while n < 8 {
-        let x = box_at(bits, n);
+        let x = box_at(s, bits, n);
         out[n] = x;
         n += 1;
     }
     out
 }
 
-// Bit i of E(R) and the round key's bit, added.
-fn mixed_at(right: &[u8], key: &[u8], i: usize) -> u8
-    requires { ⌜ (length (now key) ≡ 48) × (i < 48) ⌝ }
+// Bit i of E(R) and the round key's bit, added. The table is E, lent as the S-boxes are.
+fn mixed_at(table: &[u8], right: &[u8], key: &[u8], i: usize) -> u8
+    requires { ⌜ (now table ≡ eTable) × (length (now key) ≡ 48) × (i < 48) ⌝ }
     ensures { λ r. ⌜ r ≡ getD (xored (permuted eTable (now (right .entry))) (now (key .entry))) i 0 ⌝ }
 {
-    let k = E[i];
+    let k = table[i];
     let b = bit_at(right, k);
     sum(b, key[i])
 }
@@ -166,10 +166,11 @@ fn mixed(right: &[u8], key: &[u8]) -> [u8; 48]
     requires { ⌜ length (now key) ≡ 48 ⌝ }
     ensures { λ r. ⌜ r ≡ xored (permuted eTable (now (right .entry))) (now (key .entry)) ⌝ }
 {
+    let table = E;
     let mut out = [0u8; 48];
     let mut i = 0;
     while i < 48 {
-        let b = mixed_at(right, key, i);
+        let b = mixed_at(&table, right, key, i);
         out[i] = b;
         i += 1;
     }
@@ -177,23 +178,23 @@ fn mixed(right: &[u8], key: &[u8]) -> [u8; 48]
 }
 
 // The 32 bits of the eight boxes.
-fn substitute(bits: &[u8]) -> [u8; 32]
-    requires { ⌜ length (now bits) ≡ 48 ⌝ }
+fn substitute(s: &[u8], bits: &[u8]) -> [u8; 32]
+    requires { ⌜ (now s ≡ sTable) × (length (now bits) ≡ 48) ⌝ }
     ensures { λ r. ⌜ r ≡ substituted (now (bits .entry)) ⌝ }
 {
-    let numbers = boxes(bits);
+    let numbers = boxes(s, bits);
     let mut out = [0u8; 32];
     unpack(&mut out, 4, &numbers);
     out
 }
 
 // f(R, K).
-fn cipher_function(right: &[u8], key: &[u8]) -> [u8; 32]
-    requires { ⌜ length (now key) ≡ 48 ⌝ }
+fn cipher_function(s: &[u8], right: &[u8], key: &[u8]) -> [u8; 32]
+    requires { ⌜ (now s ≡ sTable) × (length (now key) ≡ 48) ⌝ }
     ensures { λ r. ⌜ r ≡ cipherFunction (now (right .entry)) (now (key .entry)) ⌝ }
 {
     let e = mixed(right, key);
-    let bits = substitute(&e);
+    let bits = substitute(s, &e);
     let mut f = [0u8; 32];
     permute(&mut f, &P, &bits);
     f
@@ -260,12 +261,12 @@ fn round_key(cd: &[u8]) -> [u8; 48]
 }
 
 // L and R become R and L + f(R, K), K being the key that C and D give.
-fn round(lr: &[u8], cd: &[u8]) -> [u8; 64]
-    requires { ⌜ length (now lr) ≡ 64 ⌝ }
+fn round(s: &[u8], lr: &[u8], cd: &[u8]) -> [u8; 64]
+    requires { ⌜ (now s ≡ sTable) × (length (now lr) ≡ 64) ⌝ }
     ensures { λ r. ⌜ r ≡ roundOf (now (lr .entry)) (permuted pc2Table (now (cd .entry))) ⌝ }
 {
     let key = round_key(cd);
-    let f = cipher_function(&lr[32..], &key);
+    let f = cipher_function(s, &lr[32..], &key);
     next(lr, &f)
 }
 
@@ -273,12 +274,13 @@ fn round(lr: &[u8], cd: &[u8]) -> [u8; 64]
 fn rounds(first: [u8; 56], initial: [u8; 64]) -> [u8; 64]
     ensures { λ r. ⌜ r ≡ roundsOf first initial 16 ⌝ }
 {
+    let s = S;
     let mut cd = first;
     let mut lr = initial;
     let mut n = 0;
     while n < 16 {
         cd = shift(&cd, n);
-        lr = round(&lr, &cd);
+        lr = round(&s, &lr, &cd);
         n += 1;
     }
     lr

@@ -9,8 +9,8 @@ pub boxes-spec : {M : Type 1} → statement M
 boxes-spec =
     tie.close
     (tie.spec
-    (λ bits _ _ out n. Filled 8 (boxOf bits) out n)
-    (λ _ _ _ _ n. 8 - n)
+    (λ _ bits _ _ out n. Filled 8 (boxOf bits) out n)
+    (λ _ _ _ _ _ n. 8 - n)
     (λ c. search bits)
     (λ c κs. search bits)
     (λ c. search bits)

@@ -17,4 +17,4 @@ round-spec =
     (λ c κs. search needs)
     (λ c. search needs)
     (λ c κs. search needs)
-    (λ c. cc (rest-all (c .before .before .before .before .before .before .before .before .args .lr .now) 32)))
+    (λ c. cc (rest-all (c .before .before .before .before .before .before .before .before .before .args .lr .now) 32)))
