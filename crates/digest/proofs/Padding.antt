@@ -7,6 +7,7 @@ use lib.ListN.{length, getD, replicate, length-append, length-replicate, List·g
 use lib.Seq.{getD-append-add, getD-append-seam}
 use Rattle.octets.specs.Lists.{cells, turns}
 use Rattle.octets.specs.declared.Order.{Order}
+use Rattle.octets.specs.declared.Order.the-variants.{Little, Big}
 use Rattle.octets.proofs.Loops.{Turned, turn-done, turning}
 use Rattle.octets.proofs.Lists.{length-cells, getD-cells}
 use Rattle.digest.specs.Blocks.{octetOf, wordOf, blockCount, padded, wordAt, blockAt, chained}
@@ -65,6 +66,18 @@ inner o m k w h e =
     let r = padded-message o m (k + 2) (omega arith) in
     let s = padded-message o m (k + 3) (omega arith) in
     e ∙ (λ i. wordOf o (p i) (q i) (r i) (s i))
+
+-- a word of zeros
+zero-octets : (o : Order) → wordOf o 0 0 0 0 ≡ 0
+zero-octets Little = refl
+zero-octets Big = refl
+
+pub zero-word : (o : Order) (m : List ℕ) (k b : ℕ) → b ≡ blockCount (length m) → length m < k → k + 4 ≤ b * 64 - 8 → 0 ≡ wordAt o (padded o m) k
+unfolding wordAt
+zero-word o m k b p h l = sym (zero-octets o) ∙ (λ i. wordOf o (at k (omega arith) (omega arith) i) (at (k + 1) (omega arith) (omega arith) i) (at (k + 2) (omega arith) (omega arith) i) (at (k + 3) (omega arith) (omega arith) i))
+  where
+    at : (j : ℕ) → length m < j → j < b * 64 - 8 → 0 ≡ getD (padded o m) j 0
+    at j g f = padded-zero o m j b p (omega arith) (λ e. absurd (omega arith)) f
 
 pub ruleset padding = (padded-message, padded-one, padded-zero, padded-length, inner)
 

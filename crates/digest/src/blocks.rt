@@ -106,8 +106,8 @@ fn message_word(order: Order, m: &[u8], k: usize) -> u32
     word_of(order, m[k], m[k + 1], m[k + 2], m[k + 3])
 }
 
-// The word at octet k of the padded message.
-fn padded_word(order: Order, m: &[u8], k: usize) -> u32
+// The word at octet k of the padded message, octet by octet.
+fn edge_word(order: Order, m: &[u8], k: usize) -> u32
     requires { ⌜ (length (now m) ≤ 65536) × (k + 4 ≤ blockCount (length (now m)) * 64) ⌝ }
     ensures { λ r. ⌜ r ≡ wordAt order (padded order (now (m .entry))) k ⌝ }
 {
@@ -116,6 +116,25 @@ fn padded_word(order: Order, m: &[u8], k: usize) -> u32
     let c = padded_at(order, m, k + 2);
     let d = padded_at(order, m, k + 3);
     word_of(order, a, b, c, d)
+}
+
+// The word at octet k of the padded message. Most are all message or all zeros.
+fn padded_word(order: Order, m: &[u8], k: usize) -> u32
+    requires { ⌜ (length (now m) ≤ 65536) × (k + 4 ≤ blockCount (length (now m)) * 64) ⌝ }
+    ensures { λ r. ⌜ r ≡ wordAt order (padded order (now (m .entry))) k ⌝ }
+{
+    let n = m.len();
+    if k + 4 <= n {
+        return message_word(order, m, k);
+    }
+    let start = block_count(n) * 64 - 8;
+    if k <= n {
+        return edge_word(order, m, k);
+    }
+    if k + 4 <= start {
+        return 0;
+    }
+    edge_word(order, m, k)
 }
 
 // Block i, where the message has all of it.
