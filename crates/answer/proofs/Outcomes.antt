@@ -4,7 +4,7 @@ use mathlib.Core.Path.{_≡_, refl, _∙_}
 use mathlib.Core.List.{List}
 use lib.ListN.{length}
 use borrow.Author.Tests.{lt-ltb, le-ltb}
-use Rattle.octets.specs.Lists.{over, put}
+use Rattle.octets.specs.Lists.{put}
 use Rattle.octets.proofs.Exits.{exits, pick-true, pick-false}
 use Rattle.octets.proofs.Lists.{put-front}
 use Rattle.answer.specs.Outcome.{Outcome, outcome, refused, fitting, Does}

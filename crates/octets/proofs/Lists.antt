@@ -9,7 +9,6 @@ use mathlib.Core.List.{List, [], _∷_, _++_, append-assoc, append-nil}
 use lib.ListN.{length, take, drop, getD, replicate, length-append, length-drop, length-replicate, getD-replicate, drop-of-length-le, List·getD-append, List·getD-eq-default}
 use lib.Seq.{length-take-le, getD-take, take-append-seam, drop-append-add, drop-drop, getD-append-add, getD-drop, getD-at, ext-getD}
 use borrow.Author.Tests.{le-leb}
-use Rattle.octets.specs.Choice.{pick}
 use Rattle.octets.specs.Lists.{cells, sized, over, pasted, put}
 use Rattle.octets.proofs.Exits.{below, pick-true}
 

@@ -1,14 +1,13 @@
 -- What holds at each turn of a loop, and one answer for every need: `search loops`.
-use Prim.Native.Nat.{ℕ, zero, suc, _+_, _-_, _<_, _≤_}
+use Prim.Native.Nat.{ℕ, _+_, _-_, _<_, _≤_}
 use mathlib.Core.Path.{_≡_, refl, sym, ap, _∙_}
 use mathlib.Core.List.{List, [], _∷_, _++_}
 use native.Mathlib.Numerals.{add-one}
 use native.Mathlib.Omega.{arith}
-use lib.ListN.{length, getD, take, drop, set, length-set}
+use lib.ListN.{length, getD, take, set, length-set}
 use lib.Seq.{take-suc-set, take-all, paste, paste-zero, paste-suc, take-length}
 use borrow.Author.Needs.{needs}
 use borrow.Author.Tests.{le-leb, lt-leb}
-use Rattle.octets.specs.Choice.{pick}
 use Rattle.octets.specs.Lists.{cells, sized, pasted, put, turns}
 use Rattle.octets.proofs.Exits.{pick-true, pick-false, gave-true, gave-false}
 use Rattle.octets.proofs.Lists.{sized-own}

@@ -1,7 +1,7 @@
 -- The steps of this crate's loops, what its tests tell, and one answer for all: `search octets`.
 use Prim.Native.Nat.{ℕ, zero, suc, _+_, _-_, _*_, _<_, _≤_}
 use mathlib.Core.Path.{_≡_, refl, sym, ap, _∙_}
-use mathlib.Core.List.{List, [], _∷_, _++_}
+use mathlib.Core.List.{List, [], _∷_}
 use mathlib.Core.Bool.{Bool, true, false}
 use native.Mathlib.Nat.{add-zero, add-suc, le-refl}
 use native.Mathlib.Numerals.{add-one}
@@ -9,10 +9,11 @@ use native.Mathlib.Omega.{arith}
 use lib.ListN.{length, getD, drop, drop-of-length-le, List·getD-eq-default}
 use lib.Seq.{drop-cons}
 use lib.Dec.{eqb}
+use lib.Bits.{bitOr, bitXor, or-zero-r, xor-self, or-add-and, xor-add-and, and-le-l, and-le-r}
 use borrow.Author.Tests.{eq-eqb, ne-eqb, eqb-true}
 use Rattle.octets.specs.Choice.{pick}
 use Rattle.octets.specs.declared.Order.{Order}
-use Rattle.octets.specs.Octets.{pairOf, numberAt, same, differs, isHex, allHex, hexValue, unhexAt, isDigit, digits, digitValue, numberFrom}
+use Rattle.octets.specs.Octets.{pairOf, numberAt, same, isHex, allHex, hexValue, unhexAt, isDigit, digits, digitValue, numberFrom}
 use Rattle.octets.proofs.Exits.{exits, pick-true, pick-false}
 use Rattle.octets.proofs.Loops.{loops}
 
@@ -54,36 +55,45 @@ same-other [] (y ∷ ys) h = refl
 same-other (x ∷ xs) [] h = refl
 same-other (x ∷ xs) (y ∷ ys) h = no-less (eqb x y) (same-other xs ys (λ e. h (ap suc e)))
 
--- n of the first i octets differ
-pub record Compared (a b : List ℕ) (n i : ℕ) : Type 0 where
+-- d is 0 exactly where the first i octets are the same
+pub record Compared (a b : List ℕ) (d i : ℕ) : Type 0 where
   pub long : length a ≡ length b
   pub most : i ≤ length a
-  pub bound : n ≤ i
-  pub is : same a b ≡ pick (eqb n 0) (same (drop i a) (drop i b)) false
+  pub is : same a b ≡ pick (eqb d 0) (same (drop i a) (drop i b)) false
 
 pub compare-none : {a b : List ℕ} → length a ≡ length b → Compared a b 0 0
 unfolding pick
-compare-none e = record { long = e; most = omega arith; bound = omega arith; is = refl }
+compare-none e = record { long = e; most = omega arith; is = refl }
 
 none : (t : Bool) → pick t false false ≡ false
 unfolding pick
 none true = refl
 none false = refl
 
-compare-step : (t : Bool) (n d : ℕ) (r : Bool) → d ≡ pick t 0 1 → pick (eqb n 0) (pick t r false) false ≡ pick (eqb (n + d) 0) r false
+-- no bit of two octets differs only where they are equal, and no bit of two numbers is set only where both are 0
+compare-step : (t : Bool) (d x y : ℕ) (r : Bool) → eqb x y ≡ t → pick (eqb d 0) (pick t r false) false ≡ pick (eqb (bitOr d (bitXor x y)) 0) r false
 unfolding pick
-compare-step true n d r e = let h : n + d ≡ n = omega arith in rw h
-compare-step false n d r e = none (eqb n 0) ∙ sym (pick-false _ _ _ (ne-eqb (n + d) 0 (omega arith)))
+compare-step true d x y r e =
+    let p : x ≡ y = eqb-true x y e in
+    let h : bitOr d (bitXor x y) ≡ d = ap (λ (z : ℕ). bitOr d (bitXor x z)) (sym p) ∙ ap (bitOr d) (xor-self x) ∙ or-zero-r d in
+    rw h
+compare-step false d x y r e = none (eqb d 0) ∙ sym (pick-false _ _ _ (ne-eqb _ 0 differ))
+  where
+    differ : bitOr d (bitXor x y) ≡ 0 → ⊥
+    differ z =
+        let s : x ≡ y = omega (arith, or-add-and d (bitXor x y), and-le-l d (bitXor x y), xor-add-and x y, and-le-l x y, and-le-r x y) in
+        let t : true ≡ false = sym (eq-eqb x y s) ∙ e in
+        let c : _≡_ {A = ℕ} 0 1 = cc in
+        omega arith
 
-pub compare-more : {a b : List ℕ} {n i d : ℕ} → Compared a b n i → i < length a → d ≡ differs (getD a i 0) (getD b i 0) → d ≤ 1 → Compared a b (n + d) (i + 1)
-unfolding same differs
-compare-more {a} {b} {n} {i} {d} p h e l =
+pub compare-more : {a b : List ℕ} {d i : ℕ} → Compared a b d i → i < length a → Compared a b (bitOr d (bitXor (getD a i 0) (getD b i 0))) (i + 1)
+unfolding same
+compare-more {a} {b} {d} {i} p h =
     let k : i < length b = omega arith in
     record {
       long = p .long;
       most = omega arith;
-      bound = omega arith;
-      is = p .is ∙ rw (add-one i, drop-cons a i 0 h, drop-cons b i 0 k) (compare-step (eqb (getD a i 0) (getD b i 0)) n d _ e);
+      is = p .is ∙ rw (add-one i, drop-cons a i 0 h, drop-cons b i 0 k) (compare-step (eqb (getD a i 0) (getD b i 0)) d (getD a i 0) (getD b i 0) _ refl);
     }
 
 whole : (t : Bool) → pick t true false ≡ t
@@ -91,11 +101,11 @@ unfolding pick
 whole true = refl
 whole false = refl
 
-pub compare-done : {a b : List ℕ} {n i : ℕ} → Compared a b n i → length a ≤ i → eqb n 0 ≡ same a b
+pub compare-done : {a b : List ℕ} {d i : ℕ} → Compared a b d i → length a ≤ i → eqb d 0 ≡ same a b
 unfolding same
-compare-done {a} {b} {n} {i} p h =
+compare-done {a} {b} {d} {i} p h =
     let k : length b ≤ i = omega arith in
-    sym (p .is ∙ simp (drop-of-length-le a h, drop-of-length-le b k) (whole (eqb n 0)))
+    sym (p .is ∙ simp (drop-of-length-le a h, drop-of-length-le b k) (whole (eqb d 0)))
 
 -- ---- hex digits
 pub hex-more : (either : Bool) (s : List ℕ) (i : ℕ) → i < length s → isHex either (getD s i 0) ≡ true → allHex either (drop i s) ≡ allHex either (drop (i + 1) s)

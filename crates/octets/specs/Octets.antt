@@ -4,7 +4,7 @@ use mathlib.Core.Path.{_≡_}
 use mathlib.Core.List.{List, [], _∷_, _++_}
 use mathlib.Core.Bool.{Bool, true, false}
 use lib.ListN.{length, getD, drop}
-use lib.Dec.{ltb, leb, eqb}
+use lib.Dec.{ltb, eqb}
 use Rattle.octets.specs.Choice.{pick}
 use Rattle.octets.specs.Lists.{part}
 use Rattle.octets.specs.declared.Order.{Order}
@@ -17,10 +17,6 @@ AreOctets s = (k : ℕ) → getD s k 0 < 256
 -- whether x stands at i
 unfoldable pub octetIs : List ℕ → ℕ → ℕ → Bool
 octetIs p i x = eqb (getD p i 0) x
-
--- 1 where two octets differ, and else 0
-unfoldable pub differs : ℕ → ℕ → ℕ
-differs x y = pick (eqb x y) 0 1
 
 -- whether two lists are equal, octet for octet
 unfoldable pub same : List ℕ → List ℕ → Bool

@@ -1,10 +1,9 @@
 // Octets of slices: total helpers, whatever the slice and the place.
 ghost use mathlib.Core.Path.{_≡_};
-ghost use mathlib.Core.List.{List};
 ghost use Prim.Native.Nat.{_<_, _≤_};
 ghost use lib.ListN.{length, getD, take, drop};
 ghost use Rattle.octets.specs.Lists.{cells, sized, put, Appended};
-ghost use Rattle.octets.specs.Octets.{octetIs, standsAt, same, differs, pairOf, numberAt, isHex, allHex, hexStands, hexValue, hexDigit, hexAt, unhexAt, isDigit, digits, digitValue, number, decimal, DigitsFrom};
+ghost use Rattle.octets.specs.Octets.{octetIs, standsAt, same, pairOf, numberAt, isHex, allHex, hexStands, hexValue, hexDigit, hexAt, unhexAt, isDigit, digits, digitValue, number, decimal, DigitsFrom};
 
 // The order of a number's octets: the low one first, or the high one first.
 pub enum Order {
@@ -95,16 +94,6 @@ pub fn append(dst: &mut [u8], i: usize, src: &[u8]) -> usize
     i + src.len()
 }
 
-// 1 where two octets differ, and else 0.
-fn differs_by(x: u8, y: u8) -> usize
-    ensures { λ r. ⌜ (r ≡ differs x y) × (r ≤ 1) ⌝ }
-{
-    if x == y {
-        return 0;
-    }
-    1
-}
-
 // Whether two slices are equal. Of slices of one length every octet is looked at.
 pub fn equal(a: &[u8], b: &[u8]) -> bool
     ensures { λ r. ⌜ r ≡ same (now (a .entry)) (now (b .entry)) ⌝ }
@@ -112,16 +101,15 @@ pub fn equal(a: &[u8], b: &[u8]) -> bool
     if a.len() != b.len() {
         return false;
     }
-    let mut n = 0;
+    let mut d = 0;
     let mut i = 0;
     while i < a.len() {
         let x = a[i];
         let y = b[i];
-        let d = differs_by(x, y);
-        n += d;
+        d = d | (x ^ y);
         i += 1;
     }
-    n == 0
+    d == 0
 }
 
 // Whether word stands at i.

@@ -7,7 +7,6 @@ use mathlib.Core.List.{List, [], _∷_}
 use native.Mathlib.Omega.{arith}
 use lib.ListN.{length}
 use borrow.Author.Tests.{eq-eqb, ne-eqb}
-use Rattle.octets.specs.Choice.{pick}
 use Rattle.octets.specs.Octets.{same}
 use Rattle.octets.proofs.Exits.{pick-true, pick-false}
 use Rattle.octets.proofs.Scans.{same-true}

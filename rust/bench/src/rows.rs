@@ -2,10 +2,10 @@
 
 use std::hint::black_box;
 
-use compare::boundary;
 use compare::call::{by_archive, by_second, Call};
 use compare::layout::{peer_of, PEER, SERVER};
 use compare::packets::{account, challenge, eap, failure, response, short, success, Exchange};
+use second::packet::End;
 use second::Octets16;
 use zirgumtak::raw;
 
@@ -149,13 +149,17 @@ impl Rows<'_> {
         ];
         for (name, end, packet) in &packets {
             made_alike(Call::Read { end: *end, packet }, &mut [], &mut []);
+            let other_end = [End::Peer, End::Server][usize::from(*end)];
             let times = in_turn(
                 self.batches,
                 || {
                     black_box(raw::read(black_box(*end), black_box(packet)));
                 },
                 || {
-                    black_box(boundary::read(black_box(*end), black_box(packet)).is_ok());
+                    _ = black_box(second::packet::read(
+                        black_box(other_end),
+                        black_box(packet),
+                    ));
                 },
             );
             self.row(&format!("reading {name}"), times);

@@ -26,7 +26,8 @@ pub fn check(table: &[u8]) -> Result<(), u8> {
 pub fn find(table: &[u8], user: &[u8]) -> Result<Option<Account>, u8> {
     let mut found = None;
     each_account(table, |account, name| {
-        if found.is_none() && name == user {
+        let same = equal(name, user);
+        if found.is_none() && same {
             found = Some(account);
         }
     })?;
@@ -34,6 +35,12 @@ pub fn find(table: &[u8], user: &[u8]) -> Result<Option<Account>, u8> {
         return Err(BAD_ARGUMENT);
     }
     Ok(found)
+}
+
+/// Looks at every octet of names of one length, and at names after the account's too.
+fn equal(name: &[u8], user: &[u8]) -> bool {
+    let different = |octets, (a, b): (&u8, &u8)| octets | (a ^ b);
+    name.len() == user.len() && name.iter().zip(user).fold(0, different) == 0
 }
 
 /// Shows every account and its name in turn, or answers 21 for a record of another form.

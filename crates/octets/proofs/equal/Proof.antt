@@ -8,13 +8,11 @@ pub equal-spec : {M : Type 1} → statement M
 equal-spec =
     tie.close
     (tie.spec
-    (λ a b _ _ n i. Compared a b n i)
+    (λ a b _ _ d i. Compared a b d i)
     (λ a _ _ _ _ i. length a - i)
     (λ c. search octets)
     (λ c. search octets)
     (λ c. search octets)
-    (λ c. search octets)
-    (λ c κs. search octets)
     (λ c. search octets)
     (λ c. search octets)
     (λ c. search octets)
