@@ -1,0 +1,144 @@
+-- Every reply reads back at the server's reader as the packet meant.
+use Prim.Native.Nat.{ℕ, _+_, _≤_, _<_}
+use mathlib.Core.Path.{_≡_, refl, sym, ap, subst, _∙_}
+use mathlib.Core.List.{List, []}
+use mathlib.Core.Bool.{Bool, true, false}
+use native.Mathlib.Omega.{arith}
+use lib.ListN.{length, getD, take, length-take}
+use lib.Seq.{getD-take}
+use borrow.Author.Tests.{ne-eqb}
+use Rattle.octets.specs.Choice.{pick}
+use Rattle.octets.specs.Octets.{octetIs, same, numberAt}
+use Rattle.octets.specs.declared.Order.the-variants.{Big}
+use Rattle.octets.proofs.Exits.{clash, pick-true, tested}
+use Rattle.octets.proofs.Scans.{same-true}
+use Rattle.answer.specs.Outcome.{Told, gives, Outcome}
+use Rattle.packet.specs.declared.End.the-variants as end
+use Rattle.packet.specs.declared.Kind.{Kind}
+use Rattle.packet.specs.declared.Kind.the-variants.{Challenge, Response, SuccessRequest, FailureRequest, RetryRequest, SuccessResponse, FailureResponse, EapSuccess, EapFailure}
+use Rattle.packet.specs.declared.Packet.{Packet}
+use Rattle.packet.specs.Forms.{responsePacket, successResponse, failureResponse}
+use Rattle.packet.specs.Reader.{readPacket, reading, place, nowhere}
+use Rattle.packet.proofs.Back.{Back, response-back, success-response-back, failure-response-back}
+use Rattle.packet.proofs.Readings.{Shape, tells}
+use Rattle.mschap.specs.Users.{userOf}
+use Rattle.mschap.specs.Responses.{ntResponse}
+use Rattle.mschap.proofs.Responses.{length-nt-response}
+use Rattle.peer.specs.declared.Stage.{Stage}
+use Rattle.peer.specs.declared.Stage.the-variants.{Begin, ChallengeResponseSent, SuccessResponseSent, FailureResponseSent, Waiting, Success, Failed}
+use Rattle.peer.specs.Moves.{sent, isRequest, repeats, turnOf}
+use Rattle.peer.specs.declared.Peer.{Peer}
+use Rattle.peer.specs.State.{nameOf, lastRequest, lastReply, lastId, responseTo, outstanding}
+use Rattle.peer.specs.Calls.{respondOf, confirmOf, failOf, waitOf, movedOf, turnIn, takenOf, readOf, stepOf}
+use Rattle.peerlaws.specs.Runs.{Call, step, supply, giveUp, callOf, IsPeer, IsCall}
+use Rattle.peerlaws.specs.Promises.{Request, requestOf, ReadsBack, RepliesReadBack, Takes, AnyChapIdTaken}
+use Rattle.peer.proofs.Readings.{read-id}
+use Rattle.peerlaws.proofs.Kept.{few, answer-keeps}
+use Rattle.peerlaws.proofs.Views.{Supplied, supplied, GaveUp, gave-up}
+use Rattle.peerlaws.proofs.Views as view
+use Rattle.peerlaws.proofs.Standing.{Keeps, Holds, waits-request, call-holds, reached}
+
+-- ---- a stored request has its MS-CHAPv2-ID at 6
+long : (kind : Kind) (q : List ℕ) (k : Packet) → isRequest kind ≡ true → Shape kind q k → 7 ≤ length q
+long Challenge q k f s = omega (arith, s .least)
+long Response q k f s = clash refl f
+long SuccessRequest q k f s = omega (arith, s .least)
+long FailureRequest q k f s = omega (arith, s .least)
+long RetryRequest q k f s = omega (arith, s .least)
+long SuccessResponse q k f s = clash refl f
+long FailureResponse q k f s = clash refl f
+long EapSuccess q k f s = clash refl f
+long EapFailure q k f s = clash refl f
+
+request-long : (q : List ℕ) → Request q → 7 ≤ length q
+request-long q r =
+    let k = r .packet in
+    let t = tells end.Peer q k (r .reads) in
+    omega (arith, long (k .kind) (take (k .length) q) k (r .request) (t .shape), length-take (k .length) q)
+
+-- ---- the stored reply, by the stage
+module _ (request w : List ℕ) (s : Peer) (is : IsPeer s) (id : lastId s ≡ getD request 1 0) (chapid : getD (lastRequest s) 6 0 ≡ getD request 6 0) (reply : lastReply s ≡ w) where
+  read-back : (stage : Stage) → sent stage ≡ true → Keeps stage s → ReadsBack request stage s w
+  unfolding outstanding responseTo
+  read-back Begin f k = clash refl f
+  read-back ChallengeResponseSent f k =
+      let nt = ntResponse (s .authchallenge) (s .peerchallenge) (userOf (nameOf s)) (s .hash) in
+      let e : w ≡ responsePacket (getD request 1 0) (getD request 6 0) (s .peerchallenge) nt (nameOf s) = sym reply ∙ k .0 ∙ (λ j. responsePacket (id j) ((k .2 ∙ chapid) j) (s .peerchallenge) nt (nameOf s)) in
+      rw e (response-back (getD request 1 0) (getD request 6 0) (s .peerchallenge) nt (nameOf s) (is .peerchallenge) (length-nt-response _ _ _ _) (few s is))
+  read-back SuccessResponseSent f k = rw (sym reply ∙ k .0 ∙ ap successResponse id) (success-response-back (getD request 1 0))
+  read-back FailureResponseSent f k = rw (sym reply ∙ k .0 ∙ ap failureResponse id) (failure-response-back (getD request 1 0))
+  read-back Waiting f k = clash refl f
+  read-back Success f k = clash refl f
+  read-back Failed f k = clash refl f
+
+-- ---- 6
+step-back : (p : Peer) (s random : List ℕ) (room : ℕ) → length random ≡ 16 → Holds p → callOf p (step s random room) .number ≡ 0 → ReadsBack s (callOf p (step s random room) .state .stage) (callOf p (step s random room) .state) (callOf p (step s random room) .octets)
+unfolding callOf lastId
+step-back p s random room r h z =
+    let c = step s random room in
+    let n = callOf p c .state in
+    let a = answer-keeps p c (take (numberAt Big s 2) s) (h .is) (waits-request p h) r (z, refl) in
+    let b : 7 ≤ numberAt Big s 2 = omega (arith, request-long (take (numberAt Big s 2) s) (a .is), length-take (numberAt Big s 2) s) in
+    let g = call-holds p c r h in
+    read-back s (callOf p c .octets) n (g .is)
+    (ap (λ (l : List ℕ). getD l 1 0) (a .request) ∙ getD-take (numberAt Big s 2) s 1 0 (omega arith))
+    (ap (λ (l : List ℕ). getD l 6 0) (a .request) ∙ getD-take (numberAt Big s 2) s 6 0 (omega arith))
+    (a .reply) (n .stage) (a .stage) (g .keeps)
+
+supply-back : (p : Peer) (name hash random : List ℕ) (room : ℕ) → length hash ≡ 16 → length random ≡ 16 → Holds p → callOf p (supply name hash random room) .number ≡ 0 → ReadsBack (lastRequest p) (callOf p (supply name hash random room) .state .stage) (callOf p (supply name hash random room) .state) (callOf p (supply name hash random room) .octets)
+unfolding callOf lastId
+supply-back p name hash random room e r h z =
+    let c = supply name hash random room in
+    let n = callOf p c .state in
+    let a = answer-keeps p c (lastRequest p) (h .is) (waits-request p h) (e, r) (z, refl) in
+    let g = call-holds p c (e, r) h in
+    read-back (lastRequest p) (callOf p c .octets) n (g .is) (ap (λ (l : List ℕ). getD l 1 0) (a .request)) (ap (λ (l : List ℕ). getD l 6 0) (a .request)) (a .reply) (n .stage) (a .stage) (g .keeps)
+
+give-up-back : {A : Type 0} {p : Peer} {o : Outcome Peer} → GaveUp p o → o .number ≡ 0 → A
+give-up-back (view.refuses n h l) z = absurd (omega arith)
+give-up-back (view.ends w) z = absurd (omega arith)
+
+call-back : (p : Peer) (c : Call) → IsCall c → Holds p → callOf p c .number ≡ 0 → ReadsBack (requestOf p c) (callOf p c .state .stage) (callOf p c .state) (callOf p c .octets)
+unfolding callOf
+call-back p (step s random room) r h z = step-back p s random room r h z
+call-back p (supply name hash random room) r h z = supply-back p name hash random room (r .0) (r .1) h z
+call-back p giveUp r h z = give-up-back (gave-up p) z
+
+pub replies-read-back : RepliesReadBack
+replies-read-back p c r i z = call-back p c i (reached p r) z
+
+-- "the peer takes any MS-CHAPv2-ID"
+-- a packet of another Identifier is no repeat
+unlike : (p : Peer) (s : List ℕ) (k : Packet) → readPacket end.Peer s ≡ gives k → (k .id .0 ≡ lastId p → ⊥) → same (take (k .length) s) (lastRequest p) ≡ false
+unfolding lastId
+unlike p s k e n =
+    tested (same (take (k .length) s) (lastRequest p))
+    (λ t. absurd (n (read-id end.Peer s k e ∙ sym (getD-take (k .length) s 1 0 (omega (arith, tells end.Peer s k e .least))) ∙ ap (λ (l : List ℕ). getD l 1 0) (same-true _ _ t))))
+    (λ t. t)
+
+unknown : (p : Peer) (k : Packet) → (k .id .0 ≡ lastId p → ⊥) → octetIs (lastRequest p) 1 (k .id .0) ≡ false
+unfolding octetIs lastId
+unknown p k n = ne-eqb _ _ (λ e. n (sym e))
+
+module _ (p : Peer) (s random : List ℕ) (room : ℕ) (k : Packet) (e : readPacket end.Peer s ≡ gives k) where
+  abbrev cut : List ℕ
+  cut = take (k .length) s
+
+  taken : stepOf p s random room ≡ movedOf (turnOf (p .stage) (k .kind) (same cut (lastRequest p)) (octetIs (lastRequest p) 1 (k .id .0))) p k cut random room
+  unfolding stepOf readOf takenOf turnIn
+  taken = ap (λ (t : Told Packet). readOf t p s random room) e ∙ pick-true _ _ _ refl
+
+  at-begin : p .stage ≡ Begin → k .kind ≡ Challenge → stepOf p s random room ≡ respondOf p k cut random room
+  unfolding turnOf repeats pick movedOf
+  at-begin f g = taken ∙ (λ j. movedOf (turnOf (f j) (g j) (same cut (lastRequest p)) (octetIs (lastRequest p) 1 (k .id .0))) p k cut random room)
+
+  -- a new Request while a Response is outstanding
+  asked : (kind : Kind) → p .stage ≡ ChallengeResponseSent → k .kind ≡ kind → (k .id .0 ≡ lastId p → ⊥) → stepOf p s random room ≡ movedOf (turnOf ChallengeResponseSent kind false false) p k cut random room
+  asked kind f g n = taken ∙ (λ j. movedOf (turnOf (f j) (g j) (unlike p s k e n j) (unknown p k n j)) p k cut random room)
+
+  takes : Takes p s random room k
+  unfolding turnOf repeats pick movedOf
+  takes = record { challenge = at-begin; success = asked SuccessRequest; failure = asked FailureRequest; retry = asked RetryRequest }
+
+pub any-chapid-taken : AnyChapIdTaken
+any-chapid-taken p s random room k e = takes p s random room k e

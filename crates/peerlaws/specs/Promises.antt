@@ -1,0 +1,190 @@
+-- What holds of the logger's end as a whole: over every state that can be handed in, and over lists of calls.
+use Prim.Native.Nat.{ℕ, _+_, _≤_}
+use mathlib.Core.Path.{_≡_}
+use mathlib.Core.List.{List, [], _∷_, _++_}
+use mathlib.Core.Bool.{Bool, true, false, _||_}
+use mathlib.Core.Logic.{_⊎_}
+use lib.ListN.{length, getD, take, drop}
+use lib.Dec.{eqb}
+use Rattle.octets.specs.Choice.{pick}
+use Rattle.octets.specs.Lists.{part, over}
+use Rattle.octets.specs.Octets.{numberAt}
+use Rattle.octets.specs.declared.Order.the-variants.{Big}
+use Rattle.answer.specs.Outcome.{gives, Outcome, outcome, refused, fitting, Does}
+use Rattle.packet.specs.declared.End.the-variants as end
+use Rattle.packet.specs.declared.Kind.the-variants as kind
+use Rattle.packet.specs.declared.Packet.{Packet}
+use Rattle.packet.specs.Reader.{readPacket, reading, place, nowhere}
+use Rattle.packet.specs.Forms.{successResponse}
+use Rattle.packet.proofs.Back.{Back}
+use Rattle.mschap.specs.Users.{userOf}
+use Rattle.mschap.specs.Responses.{ntResponse, authenticatorOf, digitsOf}
+use Rattle.peer.specs.declared.Stage.{Stage}
+use Rattle.peer.specs.declared.Stage.the-variants.{Begin, ChallengeResponseSent, SuccessResponseSent, FailureResponseSent, Waiting, Success, Failed}
+use Rattle.peer.specs.declared.Peer.{Peer}
+use Rattle.peer.specs.State.{nameOf, lastRequest, lastReply, lastId, outstanding, rightDigits}
+use Rattle.peer.specs.Moves.{sent, waiting, isRequest}
+use Rattle.peer.specs.Calls.{newOf, digitsIn, respondOf, confirmOf, failOf, waitOf, stepOf, supplyOf, giveUpOf}
+use Rattle.peerlaws.specs.Runs.{Call, step, supply, giveUp, callOf, roomOf, after, IsPeer, IsCall, AreCalls, Reached}
+
+-- ---- 1. "What a call answers": the number, n, the state and the buffer that a call can leave, where it took the state p and the buffer b
+pub data Leaves (p : Peer) (b : List ℕ) : (k n : ℕ) (s : Peer) (after : List ℕ) → Type 0 where
+  written : (q : List ℕ) (s : Peer) → length q ≤ length b → sent (s .stage) ≡ true → Leaves p b 0 (length q) s (over q b)
+  credentials : (s : Peer) → s .stage ≡ Waiting → Leaves p b 1 0 s b
+  authenticated : (s : Peer) → s .stage ≡ Success → Leaves p b 2 0 s b
+  ended : (s : Peer) → s .stage ≡ Failed → Leaves p b 3 0 s b
+  -- "Numbers from 10 up change no state and no lent octet, and n = 0."
+  refusal : (k : ℕ) → 10 ≤ k → k ≤ 23 → Leaves p b k 0 p b
+
+abbrev pub AnswersLeave : Type 0
+AnswersLeave =
+    (p : Peer) (c : Call) (k n : ℕ) (s : Peer) (before after : List ℕ) → length before ≡ roomOf c → Does (callOf p c) k n s before after →
+    Leaves p before k n s after
+
+-- ---- 2. A Success Response goes out first only in CHALLENGE_RESPONSE_SENT, and only for the right string
+-- the repeat rule's case: "in the three SENT stages a Request whose first L octets equal the last answered request's"
+pub record Repeats (p : Peer) (s : List ℕ) : Type 0 where
+  pub stage : sent (p .stage) ≡ true
+  pub packet : Packet
+  pub reads : readPacket end.Peer s ≡ gives packet
+  pub request : isRequest (packet .kind) ≡ true
+  pub same : take (packet .length) s ≡ lastRequest p
+
+-- a Success Request, right string
+pub record Confirms (p : Peer) (s : List ℕ) : Type 0 where
+  pub stage : p .stage ≡ ChallengeResponseSent
+  pub packet : Packet
+  pub reads : readPacket end.Peer s ≡ gives packet
+  pub success : packet .kind ≡ kind.SuccessRequest
+  pub right : digitsIn packet (take (packet .length) s) ≡ rightDigits p
+
+abbrev pub RepeatsBy : Peer → Call → Type 0
+RepeatsBy p (step s random room) = Repeats p s
+RepeatsBy p (supply name hash random room) = ⊥
+RepeatsBy p giveUp = ⊥
+
+abbrev pub ConfirmsBy : Peer → Call → Type 0
+ConfirmsBy p (step s random room) = Confirms p s
+ConfirmsBy p (supply name hash random room) = ⊥
+ConfirmsBy p giveUp = ⊥
+
+abbrev pub SuccessOnlyIfRight : Type 0
+SuccessOnlyIfRight = (p : Peer) (c : Call) (id : ℕ) → callOf p c .octets ≡ successResponse id → RepeatsBy p c ⊎ ConfirmsBy p c
+
+-- one of the calls brought it
+abbrev pub SomeConfirms : Peer → List Call → Type 0
+SomeConfirms p [] = ⊥
+SomeConfirms p (c ∷ cs) = ConfirmsBy p c ⊎ SomeConfirms (callOf p c .state) cs
+
+-- over any calls on from a made peer p, of which c is the last: no Success Response, and no answer 2, without the right string
+abbrev pub SuccessEarned : Type 0
+SuccessEarned =
+    (name hash : List ℕ) (cs : List Call) (c : Call) (p : Peer) (id : ℕ) → length hash ≡ 16 → AreCalls cs → p ≡ newOf name hash .state →
+    (callOf (after p cs) c .octets ≡ successResponse id) ⊎ (callOf (after p cs) c .number ≡ 2) → SomeConfirms p (cs ++ (c ∷ []))
+
+-- ---- 3. The repeat rule
+-- a whole packet that is a Request
+pub record Request (q : List ℕ) : Type 0 where
+  pub packet : Packet
+  pub reads : readPacket end.Peer q ≡ gives packet
+  pub whole : packet .length ≡ length q
+  pub request : isRequest (packet .kind) ≡ true
+
+-- the call answered the request q: a packet's first L octets, or the kept request
+abbrev pub Answers : Peer → Call → List ℕ → Type 0
+Answers p (step s random room) q = (stepOf p s random room .number ≡ 0) × (q ≡ take (numberAt Big s 2) s)
+Answers p (supply name hash random room) q = (supplyOf p name hash random room .number ≡ 0) × (q ≡ lastRequest p)
+Answers p giveUp q = ⊥
+
+-- a call that leaves the last answer standing: it is refused, or the answered request came again
+abbrev pub Stands : Peer → Call → Type 0
+Stands p c = (10 ≤ callOf p c .number) ⊎ RepeatsBy p c
+
+abbrev pub AllStand : Peer → List Call → Type 0
+AllStand p [] = Unit {0}
+AllStand p (c ∷ cs) = Stands p c × AllStand (callOf p c .state) cs
+
+-- p′ is the state after c, which answered q, and any such calls: q comes again, with any padding
+abbrev pub Repeated : Peer → Type 0
+Repeated p =
+    (p′ : Peer) (c : Call) (cs : List Call) (q pad random : List ℕ) (room : ℕ) →
+    IsCall c → Answers p c q → AllStand (callOf p c .state) cs → p′ ≡ after (callOf p c .state) cs →
+    stepOf p′ (q ++ pad) random room ≡ fitting room p′ (outcome 0 (callOf p c .octets) p′)
+
+-- from any state, but that a WAITING one keeps a Request; from any state that calls make
+abbrev pub RepeatRule : Type 0
+RepeatRule = (p : Peer) → IsPeer p → (waiting (p .stage) ≡ true → Request (lastRequest p)) → Repeated p
+
+abbrev pub RepeatRuleReached : Type 0
+RepeatRuleReached = (p : Peer) → Reached p → Repeated p
+
+-- ---- 5. "WAITING, SUCCESS, FAILED | no packet | 19"
+abbrev pub takesNone : Stage → Bool
+takesNone Begin = false
+takesNone ChallengeResponseSent = false
+takesNone SuccessResponseSent = false
+takesNone FailureResponseSent = false
+takesNone Waiting = true
+takesNone Success = true
+takesNone Failed = true
+
+-- 10 to 17 where the reader gives one, and else 19
+abbrev pub NoPacketTaken : Type 0
+NoPacketTaken =
+    (p : Peer) (s random : List ℕ) (room k : ℕ) → takesNone (p .stage) ≡ true → k ≡ readPacket end.Peer s .number →
+    stepOf p s random room ≡ refused (pick (eqb k 0) 19 k) p
+
+-- ---- 6. Replies. The packet that a call answers
+abbrev pub requestOf : Peer → Call → List ℕ
+requestOf p (step s random room) = s
+requestOf p (supply name hash random room) = lastRequest p
+requestOf p giveUp = []
+
+-- what the server's reader makes of the reply w to that packet, whatever padding follows: it has the packet's Identifier, and the
+-- Response has its MS-CHAPv2-ID too, and what the state s after the call has
+abbrev pub ReadsBack : List ℕ → Stage → Peer → List ℕ → Type 0
+ReadsBack request Begin s w = ⊥
+ReadsBack request ChallengeResponseSent s w =
+    Back end.Server w
+    (reading kind.Response (getD request 1 0) (getD request 6 0) (59 + length (nameOf s)) 0 (place 10 16) (place 34 24) (place 59 (length (nameOf s))))
+    (s .peerchallenge) (ntResponse (s .authchallenge) (s .peerchallenge) (userOf (nameOf s)) (s .hash)) (nameOf s)
+ReadsBack request SuccessResponseSent s w =
+    Back end.Server w (reading kind.SuccessResponse (getD request 1 0) 0 6 0 nowhere nowhere nowhere) [] [] []
+ReadsBack request FailureResponseSent s w =
+    Back end.Server w (reading kind.FailureResponse (getD request 1 0) 0 6 0 nowhere nowhere nowhere) [] [] []
+ReadsBack request Waiting s w = ⊥
+ReadsBack request Success s w = ⊥
+ReadsBack request Failed s w = ⊥
+
+abbrev pub RepliesReadBack : Type 0
+RepliesReadBack =
+    (p : Peer) (c : Call) → Reached p → IsCall c → callOf p c .number ≡ 0 →
+    ReadsBack (requestOf p c) (callOf p c .state .stage) (callOf p c .state) (callOf p c .octets)
+
+-- "the peer takes any MS-CHAPv2-ID": k is read of the packet, and is asked for its kind and its Identifier alone
+pub record Takes (p : Peer) (s random : List ℕ) (room : ℕ) (k : Packet) : Type 0 where
+  pub challenge : p .stage ≡ Begin → k .kind ≡ kind.Challenge → stepOf p s random room ≡ respondOf p k (take (k .length) s) random room
+  pub success : p .stage ≡ ChallengeResponseSent → k .kind ≡ kind.SuccessRequest → (k .id .0 ≡ lastId p → ⊥) → stepOf p s random room ≡ confirmOf p k (take (k .length) s) room
+  pub failure : p .stage ≡ ChallengeResponseSent → k .kind ≡ kind.FailureRequest → (k .id .0 ≡ lastId p → ⊥) → stepOf p s random room ≡ failOf p k (take (k .length) s) room
+  pub retry : p .stage ≡ ChallengeResponseSent → k .kind ≡ kind.RetryRequest → (k .id .0 ≡ lastId p → ⊥) → stepOf p s random room ≡ waitOf p k (take (k .length) s)
+
+abbrev pub AnyChapIdTaken : Type 0
+AnyChapIdTaken = (p : Peer) (s random : List ℕ) (room : ℕ) (k : Packet) → readPacket end.Peer s ≡ gives k → Takes p s random room k
+
+-- ---- 7. Over any calls on from a made peer
+-- the right string of the Response w, whose peer challenge, NT-Response and name stand at 10, 34 and 59
+abbrev pub rightFor : List ℕ → List ℕ → List ℕ → List ℕ
+rightFor hash authenticator w = digitsOf (authenticatorOf hash (part w 34 24) (part w 10 16) authenticator (userOf (drop 59 w)))
+
+pub record Standing (p : Peer) : Type 0 where
+  -- while a Response is outstanding, the stored reply is the Response that the state's name, hash and challenges give
+  pub response : p .stage ≡ ChallengeResponseSent → lastReply p ≡ outstanding p
+  -- "The peer's right string is the one so computed from its own hash and its outstanding Response."
+  pub string : p .stage ≡ ChallengeResponseSent → rightDigits p ≡ rightFor (p .hash) (p .authchallenge) (lastReply p)
+  -- n of a repeat is the stored packet's L
+  pub size : (s random : List ℕ) (room : ℕ) → Repeats p s → stepOf p s random room .number ≡ 0 → length (stepOf p s random room .octets) ≡ numberAt Big (lastReply p) 2
+  -- what is kept as the request is one
+  pub request : (sent (p .stage) || waiting (p .stage)) ≡ true → Request (lastRequest p)
+
+abbrev pub StateStands : Type 0
+StateStands = (p : Peer) → Reached p → Standing p

@@ -1,0 +1,57 @@
+-- Calls on the logger's end, one after the other.
+use Prim.Native.Nat.{ℕ}
+use mathlib.Core.Path.{_≡_}
+use mathlib.Core.List.{List, [], _∷_}
+use lib.ListN.{length}
+use Rattle.answer.specs.Outcome.{Outcome}
+use Rattle.peer.specs.declared.Peer.{Peer}
+use Rattle.peer.specs.Calls.{newOf, stepOf, supplyOf, giveUpOf}
+
+-- room is the size of the lent buffer
+pub data Call : Type 0 where
+  step : (packet random : List ℕ) (room : ℕ) → Call
+  supply : (name hash random : List ℕ) (room : ℕ) → Call
+  giveUp : Call
+
+unfoldable pub callOf : Peer → Call → Outcome Peer
+callOf p (step s random room) = stepOf p s random room
+callOf p (supply name hash random room) = supplyOf p name hash random room
+callOf p giveUp = giveUpOf p
+
+abbrev pub roomOf : Call → ℕ
+roomOf (step s random room) = room
+roomOf (supply name hash random room) = room
+roomOf giveUp = 0
+
+-- the state after a list of calls. Each takes the state that the last one left
+unfoldable pub after : Peer → List Call → Peer
+after p [] = p
+after p (c ∷ cs) = after (callOf p c .state) cs
+
+-- hashes, challenges and random octets "are values of 16 octets and can't have another size", and so with the state's arrays:
+-- here they are lists, whose types do not say so
+pub record IsPeer (p : Peer) : Type 0 where
+  pub name : length (p .name) ≡ 256
+  pub hash : length (p .hash) ≡ 16
+  pub authchallenge : length (p .authchallenge) ≡ 16
+  pub peerchallenge : length (p .peerchallenge) ≡ 16
+  pub request : length (p .request) ≡ 1020
+  pub reply : length (p .reply) ≡ 315
+
+abbrev pub IsCall : Call → Type 0
+IsCall (step s random room) = length random ≡ 16
+IsCall (supply name hash random room) = (length hash ≡ 16) × (length random ≡ 16)
+IsCall giveUp = Unit {0}
+
+abbrev pub AreCalls : List Call → Type 0
+AreCalls [] = Unit {0}
+AreCalls (c ∷ cs) = IsCall c × AreCalls cs
+
+-- any calls on from a made peer leave p
+pub record Reached (p : Peer) : Type 0 where
+  pub name : List ℕ
+  pub hash : List ℕ
+  pub calls : List Call
+  pub sixteen : length hash ≡ 16
+  pub are : AreCalls calls
+  pub is : p ≡ after (newOf name hash .state) calls
