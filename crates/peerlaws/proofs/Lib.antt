@@ -2,5 +2,8 @@ pub mod Views
 pub mod Promises
 pub mod Kept
 pub mod Standing
-pub mod ReadBack
 pub mod Earned
+pub mod Taken
+pub mod Twins
+pub mod Identifiers
+pub mod ReadBack

@@ -106,39 +106,3 @@ call-back p giveUp r h z = give-up-back (gave-up p) z
 
 pub replies-read-back : RepliesReadBack
 replies-read-back p c r i z = call-back p c i (reached p r) z
-
--- "the peer takes any MS-CHAPv2-ID"
--- a packet of another Identifier is no repeat
-unlike : (p : Peer) (s : List ℕ) (k : Packet) → readPacket end.Peer s ≡ gives k → (k .id .0 ≡ lastId p → ⊥) → same (take (k .length) s) (lastRequest p) ≡ false
-unfolding lastId
-unlike p s k e n =
-    tested (same (take (k .length) s) (lastRequest p))
-    (λ t. absurd (n (read-id end.Peer s k e ∙ sym (getD-take (k .length) s 1 0 (omega (arith, tells end.Peer s k e .least))) ∙ ap (λ (l : List ℕ). getD l 1 0) (same-true _ _ t))))
-    (λ t. t)
-
-unknown : (p : Peer) (k : Packet) → (k .id .0 ≡ lastId p → ⊥) → octetIs (lastRequest p) 1 (k .id .0) ≡ false
-unfolding octetIs lastId
-unknown p k n = ne-eqb _ _ (λ e. n (sym e))
-
-module _ (p : Peer) (s random : List ℕ) (room : ℕ) (k : Packet) (e : readPacket end.Peer s ≡ gives k) where
-  abbrev cut : List ℕ
-  cut = take (k .length) s
-
-  taken : stepOf p s random room ≡ movedOf (turnOf (p .stage) (k .kind) (same cut (lastRequest p)) (octetIs (lastRequest p) 1 (k .id .0))) p k cut random room
-  unfolding stepOf readOf takenOf turnIn
-  taken = ap (λ (t : Told Packet). readOf t p s random room) e ∙ pick-true _ _ _ refl
-
-  at-begin : p .stage ≡ Begin → k .kind ≡ Challenge → stepOf p s random room ≡ respondOf p k cut random room
-  unfolding turnOf repeats pick movedOf
-  at-begin f g = taken ∙ (λ j. movedOf (turnOf (f j) (g j) (same cut (lastRequest p)) (octetIs (lastRequest p) 1 (k .id .0))) p k cut random room)
-
-  -- a new Request while a Response is outstanding
-  asked : (kind : Kind) → p .stage ≡ ChallengeResponseSent → k .kind ≡ kind → (k .id .0 ≡ lastId p → ⊥) → stepOf p s random room ≡ movedOf (turnOf ChallengeResponseSent kind false false) p k cut random room
-  asked kind f g n = taken ∙ (λ j. movedOf (turnOf (f j) (g j) (unlike p s k e n j) (unknown p k n j)) p k cut random room)
-
-  takes : Takes p s random room k
-  unfolding turnOf repeats pick movedOf
-  takes = record { challenge = at-begin; success = asked SuccessRequest; failure = asked FailureRequest; retry = asked RetryRequest }
-
-pub any-chapid-taken : AnyChapIdTaken
-any-chapid-taken p s random room k e = takes p s random room k e

@@ -4,7 +4,7 @@ use mathlib.Core.Path.{_≡_}
 use mathlib.Core.List.{List, [], _∷_, _++_}
 use mathlib.Core.Bool.{Bool, true, false, _||_}
 use mathlib.Core.Logic.{_⊎_}
-use lib.ListN.{length, getD, take, drop}
+use lib.ListN.{length, getD, take, drop, set}
 use lib.Dec.{eqb}
 use Rattle.octets.specs.Choice.{pick}
 use Rattle.octets.specs.Lists.{part, over}
@@ -117,6 +117,31 @@ RepeatRule = (p : Peer) → IsPeer p → (waiting (p .stage) ≡ true → Reques
 
 abbrev pub RepeatRuleReached : Type 0
 RepeatRuleReached = (p : Peer) → Reached p → Repeated p
+
+-- ---- 4. Identifiers are compared for equality only: but for itself, an Identifier that is not the last answered one changes nothing
+unfoldable pub unnumberedState : Peer → Peer
+unnumberedState p = record {
+  stage = p .stage;
+  name = p .name;
+  namelen = p .namelen;
+  hash = p .hash;
+  authchallenge = p .authchallenge;
+  peerchallenge = p .peerchallenge;
+  chapid = p .chapid;
+  request = set (p .request) 1 0;
+  requestlen = p .requestlen;
+  reply = set (p .reply) 1 0;
+  replylen = p .replylen;
+}
+
+-- an outcome with 0 for the Identifier in its reply, and in the request and the reply that the state stores
+unfoldable pub unnumbered : Outcome Peer → Outcome Peer
+unnumbered o = outcome (o .number) (set (o .octets) 1 0) (unnumberedState (o .state))
+
+abbrev pub EqualityOnly : Type 0
+EqualityOnly =
+    (p : Peer) (code i j : ℕ) (rest random : List ℕ) (room : ℕ) → (i ≡ lastId p → ⊥) → (j ≡ lastId p → ⊥) →
+    unnumbered (stepOf p (code ∷ i ∷ rest) random room) ≡ unnumbered (stepOf p (code ∷ j ∷ rest) random room)
 
 -- ---- 5. "WAITING, SUCCESS, FAILED | no packet | 19"
 abbrev pub takesNone : Stage → Bool
