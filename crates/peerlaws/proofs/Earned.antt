@@ -19,7 +19,7 @@ use Rattle.peer.specs.State.{lastReply, responseTo, outstanding, fresh, staged,
 use Rattle.peer.specs.Moves.{sent}
 use Rattle.peer.specs.Calls.{newOf, respondedTo, suppliedBy}
 use Rattle.peerlaws.specs.Runs.{Call, step, supply, giveUp, callOf, after}
-use Rattle.peerlaws.specs.Promises.{Repeats, Confirms, ConfirmsBy, SomeConfirms, SuccessEarned}
+use Rattle.peerlaws.specs.Promises.{Confirms, ConfirmsBy, SomeConfirms, SuccessEarned}
 use Rattle.peerlaws.proofs.Promises.{response-op, other, moved-confirms, supply-confirms, give-up-confirms}
 use Rattle.peerlaws.proofs.Views.{Moved, responds, accepts, fails, waits, succeeds, ends, Stepped, stepped, Supplied, supplied, GaveUp, gave-up}
 use Rattle.peerlaws.proofs.Views as view

@@ -4,14 +4,13 @@ use mathlib.Core.Path.{_≡_, refl, sym, ap, _∙_}
 use mathlib.Core.List.{List, [], _∷_}
 use mathlib.Core.Bool.{Bool, true, false}
 use native.Mathlib.Omega.{arith}
-use lib.ListN.{length, take, drop, set}
+use lib.ListN.{length, take, set}
 use lib.Dec.{ltb, eqb}
 use Rattle.octets.specs.Choice.{pick}
 use Rattle.octets.specs.Lists.{part, cells, sized}
 use Rattle.octets.specs.Octets.{same, unhexAt}
 use Rattle.octets.proofs.Exits.{pick-false, clash}
-use Rattle.answer.specs.Outcome.{Told, Outcome, outcome, refused, fitting}
-use Rattle.answer.specs.declared.ChapId.{ChapId}
+use Rattle.answer.specs.Outcome.{Told, outcome, refused, fitting}
 use Rattle.packet.specs.declared.End.the-variants as end
 use Rattle.packet.specs.declared.Kind.{Kind}
 use Rattle.packet.specs.declared.Kind.the-variants.{Challenge, Response, SuccessRequest, FailureRequest, RetryRequest, SuccessResponse, FailureResponse, EapSuccess, EapFailure}
@@ -22,7 +21,7 @@ use Rattle.packet.proofs.Readings.{Shape, tells}
 use Rattle.peer.specs.declared.Stage.{Stage}
 use Rattle.peer.specs.declared.Stage.the-variants.{Begin, ChallengeResponseSent, SuccessResponseSent, FailureResponseSent, Waiting, Success, Failed}
 use Rattle.peer.specs.declared.Peer.{Peer}
-use Rattle.peer.specs.State.{nameOf, lastId, responseTo, rightDigits, answered, responded, kept}
+use Rattle.peer.specs.State.{responseTo, rightDigits, answered, responded, kept}
 use Rattle.peer.specs.Moves.{repeats, turnOf}
 use Rattle.peer.specs.Calls.{challengeIn, renewedIn, digitsIn, responseIn, respondedTo, respondOf, sendBare, acceptOf, concludeOf, confirmOf, failOf, waitOf, movedOf, readOf, stepOf}
 use Rattle.peerlaws.specs.Promises.{unnumberedState, unnumbered, EqualityOnly}

@@ -14,7 +14,6 @@ use Rattle.octets.proofs.Exits.{pick-true, pick-false, arms}
 use Rattle.octets.proofs.Scans.{same-refl}
 use Rattle.answer.specs.Outcome.{Told, gives, Outcome, outcome, fitting}
 use Rattle.packet.specs.declared.End.the-variants as end
-use Rattle.packet.specs.declared.Kind.{Kind}
 use Rattle.packet.specs.declared.Packet.{Packet}
 use Rattle.packet.specs.Reader.{readPacket}
 use Rattle.peer.specs.declared.Peer.{Peer}

@@ -1,4 +1,5 @@
 pub mod Views
+pub mod Sizes
 pub mod Promises
 pub mod Kept
 pub mod Standing

@@ -1,5 +1,5 @@
 -- The promises 1, 2 and 5 of specs/Promises, by the cases of a call.
-use Prim.Native.Nat.{ℕ, _≤_}
+use Prim.Native.Nat.{ℕ}
 use mathlib.Core.Path.{_≡_, refl, sym, ap, _∙_}
 use mathlib.Core.List.{List, []}
 use mathlib.Core.Logic.{_⊎_, inl, inr}
@@ -14,7 +14,6 @@ use Rattle.octets.specs.Octets.{octetIs, same}
 use Rattle.octets.proofs.Exits.{pick-true, pick-false, clash}
 use Rattle.answer.specs.Outcome.{Told, gives, Outcome, refused, Does}
 use Rattle.packet.specs.declared.End.the-variants as end
-use Rattle.packet.specs.declared.Kind.{Kind}
 use Rattle.packet.specs.declared.Packet.{Packet}
 use Rattle.packet.specs.Reader.{readPacket}
 use Rattle.packet.specs.Forms.{header, chapPacket, responsePacket, successResponse, failureResponse}

@@ -1,40 +1,34 @@
 -- Every reply reads back at the server's reader as the packet meant.
-use Prim.Native.Nat.{ℕ, _+_, _≤_, _<_}
-use mathlib.Core.Path.{_≡_, refl, sym, ap, subst, _∙_}
-use mathlib.Core.List.{List, []}
-use mathlib.Core.Bool.{Bool, true, false}
+use Prim.Native.Nat.{ℕ, _≤_}
+use mathlib.Core.Path.{_≡_, refl, sym, ap, _∙_}
+use mathlib.Core.List.{List}
+use mathlib.Core.Bool.{true}
 use native.Mathlib.Omega.{arith}
 use lib.ListN.{length, getD, take, length-take}
 use lib.Seq.{getD-take}
-use borrow.Author.Tests.{ne-eqb}
-use Rattle.octets.specs.Choice.{pick}
-use Rattle.octets.specs.Octets.{octetIs, same, numberAt}
+use Rattle.octets.specs.Octets.{numberAt}
 use Rattle.octets.specs.declared.Order.the-variants.{Big}
-use Rattle.octets.proofs.Exits.{clash, pick-true, tested}
-use Rattle.octets.proofs.Scans.{same-true}
-use Rattle.answer.specs.Outcome.{Told, gives, Outcome}
+use Rattle.octets.proofs.Exits.{clash}
+use Rattle.answer.specs.Outcome.{Outcome}
 use Rattle.packet.specs.declared.End.the-variants as end
 use Rattle.packet.specs.declared.Kind.{Kind}
 use Rattle.packet.specs.declared.Kind.the-variants.{Challenge, Response, SuccessRequest, FailureRequest, RetryRequest, SuccessResponse, FailureResponse, EapSuccess, EapFailure}
 use Rattle.packet.specs.declared.Packet.{Packet}
 use Rattle.packet.specs.Forms.{responsePacket, successResponse, failureResponse}
-use Rattle.packet.specs.Reader.{readPacket, reading, place, nowhere}
-use Rattle.packet.proofs.Back.{Back, response-back, success-response-back, failure-response-back}
+use Rattle.packet.proofs.Back.{response-back, success-response-back, failure-response-back}
 use Rattle.packet.proofs.Readings.{Shape, tells}
 use Rattle.mschap.specs.Users.{userOf}
 use Rattle.mschap.specs.Responses.{ntResponse}
 use Rattle.mschap.proofs.Responses.{length-nt-response}
 use Rattle.peer.specs.declared.Stage.{Stage}
 use Rattle.peer.specs.declared.Stage.the-variants.{Begin, ChallengeResponseSent, SuccessResponseSent, FailureResponseSent, Waiting, Success, Failed}
-use Rattle.peer.specs.Moves.{sent, isRequest, repeats, turnOf}
+use Rattle.peer.specs.Moves.{sent, isRequest}
 use Rattle.peer.specs.declared.Peer.{Peer}
 use Rattle.peer.specs.State.{nameOf, lastRequest, lastReply, lastId, responseTo, outstanding}
-use Rattle.peer.specs.Calls.{respondOf, confirmOf, failOf, waitOf, movedOf, turnIn, takenOf, readOf, stepOf}
 use Rattle.peerlaws.specs.Runs.{Call, step, supply, giveUp, callOf, IsPeer, IsCall}
-use Rattle.peerlaws.specs.Promises.{Request, requestOf, ReadsBack, RepliesReadBack, Takes, AnyChapIdTaken}
-use Rattle.peer.proofs.Readings.{read-id}
+use Rattle.peerlaws.specs.Promises.{Request, requestOf, ReadsBack, RepliesReadBack}
 use Rattle.peerlaws.proofs.Kept.{few, answer-keeps}
-use Rattle.peerlaws.proofs.Views.{Supplied, supplied, GaveUp, gave-up}
+use Rattle.peerlaws.proofs.Views.{GaveUp, gave-up}
 use Rattle.peerlaws.proofs.Views as view
 use Rattle.peerlaws.proofs.Standing.{Keeps, Holds, waits-request, call-holds, reached}
 

@@ -4,7 +4,7 @@ use mathlib.Core.Path.{_≡_, refl, sym, ap, subst, _∙_}
 use mathlib.Core.List.{List, [], _∷_, _++_}
 use mathlib.Core.Bool.{true, _||_}
 use native.Mathlib.Omega.{arith}
-use lib.ListN.{length, getD, take, drop, length-take, length-replicate}
+use lib.ListN.{length, getD, take, drop, length-take}
 use lib.Dec.{ltb}
 use lib.Seq.{getD-take}
 use Rattle.octets.specs.Lists.{sized}
@@ -12,7 +12,7 @@ use Rattle.octets.specs.Octets.{numberAt}
 use Rattle.octets.specs.declared.Order.the-variants.{Big}
 use Rattle.octets.proofs.Exits.{arms, clash}
 use Rattle.octets.proofs.Parts.{part-from, drop-next}
-use Rattle.octets.proofs.Lists.{length-sized, length-cells, take-sized}
+use Rattle.octets.proofs.Lists.{take-sized}
 use Rattle.answer.specs.Outcome.{gives, Outcome, fitting}
 use Rattle.packet.specs.declared.End.the-variants as end
 use Rattle.packet.specs.declared.Kind.{Kind}
@@ -29,12 +29,13 @@ use Rattle.peer.specs.declared.Stage.the-variants.{Begin, ChallengeResponseSent
 use Rattle.peer.specs.declared.Peer.{Peer}
 use Rattle.peer.specs.State.{nameOf, lastRequest, lastReply, lastId, responseTo, digitsTo, outstanding, rightDigits, fresh, staged, answered, responded, kept, supplied as suppliedState}
 use Rattle.peer.specs.Moves.{sent, waiting, isRequest}
-use Rattle.peer.specs.Calls.{newOf, stepOf, againOf, challengeIn, renewedIn, responseIn, respondedTo, responseBy, suppliedBy}
+use Rattle.peer.specs.Calls.{newOf, stepOf, againOf, challengeIn, responseIn, respondedTo, responseBy, suppliedBy}
 use Rattle.peerlaws.specs.Runs.{Call, step, supply, giveUp, callOf, after, IsPeer, IsCall, AreCalls, Reached}
 use Rattle.peerlaws.specs.Promises.{Repeats, Request, RepeatRuleReached, rightFor, StateStands}
 use Rattle.peer.proofs.Readings.{read-id}
 use Rattle.peerlaws.proofs.Views.{Moved, responds, accepts, fails, waits, succeeds, ends, Stepped, stepped, Supplied, supplied, GaveUp, gave-up}
 use Rattle.peerlaws.proofs.Views as view
+use Rattle.peerlaws.proofs.Sizes.{new-is, call-is}
 use Rattle.peerlaws.proofs.Kept.{whole-request, Answering, moved-keeps, supply-keeps, repeat-again, repeat-rule}
 
 -- what each stage keeps; the MS-CHAPv2-ID is octet 6 of the request
@@ -54,32 +55,7 @@ pub record Holds (p : Peer) : Type 0 where
 -- ---- a made peer
 made : (name hash : List ℕ) → length hash ≡ 16 → Holds (newOf name hash .state)
 unfolding newOf fresh
-made name hash h =
-    arms (λ (o : Outcome Peer). Holds (o .state)) _
-    (record { is = record { name = length-sized 256 []; hash = refl; authchallenge = refl; peerchallenge = refl; request = length-replicate {A = ℕ} 1020 0; reply = length-replicate {A = ℕ} 315 0 }; keeps = tt })
-    (record { is = record { name = length-sized 256 name; hash = h; authchallenge = refl; peerchallenge = refl; request = length-replicate {A = ℕ} 1020 0; reply = length-replicate {A = ℕ} 315 0 }; keeps = tt })
-
--- ---- the sizes after each kind of move
-module _ (p : Peer) (i : IsPeer p) where
-  is-staged : (stage : Stage) → IsPeer (staged stage p)
-  unfolding staged
-  is-staged stage = record { name = i .name; hash = i .hash; authchallenge = i .authchallenge; peerchallenge = i .peerchallenge; request = i .request; reply = i .reply }
-
-  is-answered : (stage : Stage) (q w : List ℕ) → IsPeer (answered stage q w p)
-  unfolding answered
-  is-answered stage q w = record { name = i .name; hash = i .hash; authchallenge = i .authchallenge; peerchallenge = i .peerchallenge; request = length-sized 1020 q; reply = length-sized 315 w }
-
-  is-responded : (k : Packet) (q random : List ℕ) → length random ≡ 16 → IsPeer (respondedTo p k q random)
-  unfolding respondedTo responded challengeIn
-  is-responded k q random r = record { name = i .name; hash = i .hash; authchallenge = length-sized 16 _; peerchallenge = r; request = length-sized 1020 q; reply = length-sized 315 _ }
-
-  is-kept : (k : Packet) (q : List ℕ) → IsPeer (kept (renewedIn k q) (k .chapid) q p)
-  unfolding kept renewedIn
-  is-kept k q = record { name = i .name; hash = i .hash; authchallenge = length-cells 16 _; peerchallenge = i .peerchallenge; request = length-sized 1020 q; reply = i .reply }
-
-  is-supplied : (name hash random : List ℕ) → length hash ≡ 16 → length random ≡ 16 → IsPeer (suppliedBy p name hash random)
-  unfolding suppliedBy suppliedState
-  is-supplied name hash random e r = record { name = length-sized 256 name; hash = e; authchallenge = i .authchallenge; peerchallenge = r; request = i .request; reply = length-sized 315 _ }
+made name hash h = record { is = new-is name hash h; keeps = arms (λ (o : Outcome Peer). Keeps (o .state .stage) (o .state)) (ltb 256 (length name)) tt tt }
 
 -- ---- what is kept
 answering-id : (n : Peer) (q w : List ℕ) (i : ℕ) → Answering n q w → getD q 1 0 ≡ i → lastId n ≡ i
@@ -103,60 +79,57 @@ module _ (p : Peer) (s random : List ℕ) (room : ℕ) (r : length random ≡ 16
   retry-chapid : (k : Packet) → readPacket end.Peer s ≡ gives k → k .kind ≡ RetryRequest → k .chapid .0 ≡ getD (take (k .length) s) 6 0
   retry-chapid k e g = ap (λ (x : Packet). x .chapid .0) (subst (λ (z : Kind). Shape z (take (k .length) s) k) g (tells end.Peer s k e .shape) .reads)
 
-  moved-holds : {o : Outcome Peer} (k : Packet) → readPacket end.Peer s ≡ gives k → Moved p k (take (k .length) s) random room o → Holds (o .state)
+  moved-stays : {o : Outcome Peer} (k : Packet) → readPacket end.Peer s ≡ gives k → Moved p k (take (k .length) s) random room o → Keeps (o .state .stage) (o .state)
   unfolding respondedTo responded responseIn outstanding nameOf answered kept staged lastRequest
-  moved-holds k e m = go m (moved-keeps p s random room (h .is) r k e m)
+  moved-stays k e m = go m (moved-keeps p s random room (h .is) r k e m)
     where
       q : List ℕ
       q = take (k .length) s
 
-      go : {o : Outcome Peer} → Moved p k q random room o → (o .number ≡ 0 → Answering (o .state) q (o .octets)) → Holds (o .state)
+      go : {o : Outcome Peer} → Moved p k q random room o → (o .number ≡ 0 → Answering (o .state) q (o .octets)) → Keeps (o .state .stage) (o .state)
       go (responds f g l) a =
           let n = respondedTo p k q random in
           let i = answering-id n q _ (k .id .0) (a refl) (id-of k e) in
-          record {
-            is = is-responded p (h .is) k q random r;
-            keeps = (a refl .reply ∙ ap (λ (x : ℕ). responseTo x (k .chapid .0) (challengeIn k q) random (nameOf p) (p .hash)) (sym i), answering-request n q _ (a refl), challenge-chapid k e g ∙ ap (λ (l : List ℕ). getD l 6 0) (sym (a refl .request)));
-          }
+          (a refl .reply ∙ ap (λ (x : ℕ). responseTo x (k .chapid .0) (challengeIn k q) random (nameOf p) (p .hash)) (sym i), answering-request n q _ (a refl), challenge-chapid k e g ∙ ap (λ (l : List ℕ). getD l 6 0) (sym (a refl .request)))
       go (accepts f g d l) a =
           let n = answered SuccessResponseSent q (successResponse (k .id .0)) p in
-          record { is = is-answered p (h .is) SuccessResponseSent q _; keeps = (a refl .reply ∙ ap successResponse (sym (answering-id n q _ (k .id .0) (a refl) (id-of k e))), answering-request n q _ (a refl)) }
+          (a refl .reply ∙ ap successResponse (sym (answering-id n q _ (k .id .0) (a refl) (id-of k e))), answering-request n q _ (a refl))
       go (fails f g l) a =
           let n = answered FailureResponseSent q (failureResponse (k .id .0)) p in
-          record { is = is-answered p (h .is) FailureResponseSent q _; keeps = (a refl .reply ∙ ap failureResponse (sym (answering-id n q _ (k .id .0) (a refl) (id-of k e))), answering-request n q _ (a refl)) }
+          (a refl .reply ∙ ap failureResponse (sym (answering-id n q _ (k .id .0) (a refl) (id-of k e))), answering-request n q _ (a refl))
       go (waits f g) a =
           let t : take (length q) (sized 1020 q) ≡ q = take-sized 1020 q (cut-fits k e) in
-          record { is = is-kept p (h .is) k q; keeps = (rw t (whole-request s k e (ap isRequest g)), retry-chapid k e g ∙ ap (λ (l : List ℕ). getD l 6 0) (sym t)) }
-      go (succeeds f) a = record { is = is-staged p (h .is) Success; keeps = tt }
-      go ends a = record { is = is-staged p (h .is) Failed; keeps = tt }
+          (rw t (whole-request s k e (ap isRequest g)), retry-chapid k e g ∙ ap (λ (l : List ℕ). getD l 6 0) (sym t))
+      go (succeeds f) a = tt
+      go ends a = tt
 
-  step-holds : {o : Outcome Peer} → Stepped p s random room o → Holds (o .state)
-  step-holds (view.refuses n a b) = h
-  step-holds (view.repeats-it t f) = h
-  step-holds (view.moves k e m) = moved-holds k e m
+  step-stays : {o : Outcome Peer} → Stepped p s random room o → Keeps (o .state .stage) (o .state)
+  step-stays (view.refuses n a b) = h .keeps
+  step-stays (view.repeats-it t f) = h .keeps
+  step-stays (view.moves k e m) = moved-stays k e m
 
 -- ---- the other calls, and any list of them
-supply-holds : (p : Peer) (name hash random : List ℕ) (room : ℕ) → length hash ≡ 16 → length random ≡ 16 → Holds p → {o : Outcome Peer} → Supplied p name hash random room o → Holds (o .state)
+supply-stays : (p : Peer) (name hash random : List ℕ) (room : ℕ) → length random ≡ 16 → Holds p → {o : Outcome Peer} → Supplied p name hash random room o → Keeps (o .state .stage) (o .state)
 unfolding suppliedBy suppliedState responseBy outstanding nameOf lastId lastRequest
-supply-holds p name hash random room e r h (view.refuses n a b) = h
-supply-holds p name hash random room e r h (view.supplies w f l) =
+supply-stays p name hash random room r h (view.refuses n a b) = h .keeps
+supply-stays p name hash random room r h (view.supplies w f l) =
     let t : Keeps Waiting p = rw w at (h .keeps) in
     let a = supply-keeps p name hash random room r (view.supplies w f l) refl (t .0) in
-    record {
-      is = is-supplied p (h .is) name hash random e r;
-      keeps = (a .reply ∙ ap (λ (x : List ℕ). responseTo (lastId p) (p .chapid .0) (p .authchallenge) random x hash) (sym (take-sized 256 name f)), t .0, t .1);
-    }
+    (a .reply ∙ ap (λ (x : List ℕ). responseTo (lastId p) (p .chapid .0) (p .authchallenge) random x hash) (sym (take-sized 256 name f)), t .0, t .1)
 
-give-up-holds : (p : Peer) → Holds p → {o : Outcome Peer} → GaveUp p o → Holds (o .state)
+give-up-stays : (p : Peer) → Holds p → {o : Outcome Peer} → GaveUp p o → Keeps (o .state .stage) (o .state)
 unfolding staged
-give-up-holds p h (view.refuses n a b) = h
-give-up-holds p h (view.ends w) = record { is = is-staged p (h .is) Failed; keeps = tt }
+give-up-stays p h (view.refuses n a b) = h .keeps
+give-up-stays p h (view.ends w) = tt
+
+call-stays : (p : Peer) (c : Call) → IsCall c → Holds p → Keeps (callOf p c .state .stage) (callOf p c .state)
+unfolding callOf
+call-stays p (step s random room) r h = step-stays p s random room r h (stepped p s random room)
+call-stays p (supply name hash random room) r h = supply-stays p name hash random room (r .1) h (supplied p name hash random room)
+call-stays p giveUp r h = give-up-stays p h (gave-up p)
 
 pub call-holds : (p : Peer) (c : Call) → IsCall c → Holds p → Holds (callOf p c .state)
-unfolding callOf
-call-holds p (step s random room) r h = step-holds p s random room r h (stepped p s random room)
-call-holds p (supply name hash random room) r h = supply-holds p name hash random room (r .0) (r .1) h (supplied p name hash random room)
-call-holds p giveUp r h = give-up-holds p h (gave-up p)
+call-holds p c r h = record { is = call-is p c r (h .is); keeps = call-stays p c r h }
 
 after-holds : (p : Peer) (cs : List Call) → AreCalls cs → Holds p → Holds (after p cs)
 unfolding after

@@ -24,7 +24,7 @@ use Rattle.peer.specs.declared.Stage.the-variants.{Begin, ChallengeResponseSent
 use Rattle.peer.specs.declared.Peer.{Peer}
 use Rattle.peer.specs.State.{nameOf, lastRequest, lastReply, lastId, outstanding, rightDigits}
 use Rattle.peer.specs.Moves.{sent, waiting, isRequest}
-use Rattle.peer.specs.Calls.{newOf, digitsIn, respondOf, confirmOf, failOf, waitOf, stepOf, supplyOf, giveUpOf}
+use Rattle.peer.specs.Calls.{newOf, digitsIn, respondOf, confirmOf, failOf, waitOf, stepOf, supplyOf}
 use Rattle.peerlaws.specs.Runs.{Call, step, supply, giveUp, callOf, roomOf, after, IsPeer, IsCall, AreCalls, Reached}
 
 -- ---- 1. "What a call answers": the number, n, the state and the buffer that a call can leave, where it took the state p and the buffer b

@@ -1,0 +1,81 @@
+-- Every call leaves a value of the struct: its arrays keep their sizes.
+use Prim.Native.Nat.{ℕ}
+use mathlib.Core.Path.{_≡_}
+use mathlib.Core.List.{List, []}
+use lib.ListN.{length, length-replicate}
+use lib.Dec.{ltb}
+use Rattle.octets.proofs.Exits.{arms}
+use Rattle.octets.proofs.Lists.{length-cells, length-sized}
+use Rattle.answer.specs.Outcome.{Outcome}
+use Rattle.packet.specs.declared.Packet.{Packet}
+use Rattle.peer.specs.declared.Stage.{Stage}
+use Rattle.peer.specs.declared.Stage.the-variants.{Begin, Failed}
+use Rattle.peer.specs.declared.Peer.{Peer}
+use Rattle.peer.specs.State.{fresh, staged, answered, responded, kept, supplied as suppliedState}
+use Rattle.peer.specs.Calls.{newOf, challengeIn, renewedIn, respondedTo, suppliedBy}
+use Rattle.peerlaws.specs.Runs.{Call, step, supply, giveUp, callOf, IsPeer, IsCall}
+use Rattle.peerlaws.proofs.Views.{Moved, responds, accepts, fails, waits, succeeds, ends, Stepped, stepped, Supplied, supplied, GaveUp, gave-up}
+use Rattle.peerlaws.proofs.Views as view
+
+is-fresh : (stage : Stage) (name hash : List ℕ) → length hash ≡ 16 → IsPeer (fresh stage name hash)
+unfolding fresh
+is-fresh stage name hash h = record {
+  name = length-sized 256 name;
+  hash = h;
+  authchallenge = length-replicate {A = ℕ} 16 0;
+  peerchallenge = length-replicate {A = ℕ} 16 0;
+  request = length-replicate {A = ℕ} 1020 0;
+  reply = length-replicate {A = ℕ} 315 0;
+}
+
+pub new-is : (name hash : List ℕ) → length hash ≡ 16 → IsPeer (newOf name hash .state)
+unfolding newOf
+new-is name hash h = arms (λ (o : Outcome Peer). IsPeer (o .state)) (ltb 256 (length name)) (is-fresh Failed [] _ (length-replicate {A = ℕ} 16 0)) (is-fresh Begin name hash h)
+
+module _ (p : Peer) (i : IsPeer p) where
+  is-staged : (stage : Stage) → IsPeer (staged stage p)
+  unfolding staged
+  is-staged stage = record { name = i .name; hash = i .hash; authchallenge = i .authchallenge; peerchallenge = i .peerchallenge; request = i .request; reply = i .reply }
+
+  is-answered : (stage : Stage) (q w : List ℕ) → IsPeer (answered stage q w p)
+  unfolding answered
+  is-answered stage q w = record { name = i .name; hash = i .hash; authchallenge = i .authchallenge; peerchallenge = i .peerchallenge; request = length-sized 1020 q; reply = length-sized 315 w }
+
+  is-responded : (k : Packet) (q random : List ℕ) → length random ≡ 16 → IsPeer (respondedTo p k q random)
+  unfolding respondedTo responded challengeIn
+  is-responded k q random r = record { name = i .name; hash = i .hash; authchallenge = length-sized 16 _; peerchallenge = r; request = length-sized 1020 q; reply = length-sized 315 _ }
+
+  is-kept : (k : Packet) (q : List ℕ) → IsPeer (kept (renewedIn k q) (k .chapid) q p)
+  unfolding kept renewedIn
+  is-kept k q = record { name = i .name; hash = i .hash; authchallenge = length-cells 16 _; peerchallenge = i .peerchallenge; request = length-sized 1020 q; reply = i .reply }
+
+  is-supplied : (name hash random : List ℕ) → length hash ≡ 16 → length random ≡ 16 → IsPeer (suppliedBy p name hash random)
+  unfolding suppliedBy suppliedState
+  is-supplied name hash random e r = record { name = length-sized 256 name; hash = e; authchallenge = i .authchallenge; peerchallenge = r; request = i .request; reply = length-sized 315 _ }
+
+  moved-is : {k : Packet} {q random : List ℕ} {room : ℕ} {o : Outcome Peer} → length random ≡ 16 → Moved p k q random room o → IsPeer (o .state)
+  moved-is {k} {q} {random} r (responds f g l) = is-responded k q random r
+  moved-is r (accepts f g d l) = is-answered _ _ _
+  moved-is r (fails f g l) = is-answered _ _ _
+  moved-is {k} {q} r (waits f g) = is-kept k q
+  moved-is r (succeeds f) = is-staged _
+  moved-is r ends = is-staged _
+
+  step-is : {s random : List ℕ} {room : ℕ} {o : Outcome Peer} → length random ≡ 16 → Stepped p s random room o → IsPeer (o .state)
+  step-is r (view.refuses n h l) = i
+  step-is r (view.repeats-it t l) = i
+  step-is r (view.moves k e m) = moved-is r m
+
+  supply-is : {name hash random : List ℕ} {room : ℕ} {o : Outcome Peer} → length hash ≡ 16 → length random ≡ 16 → Supplied p name hash random room o → IsPeer (o .state)
+  supply-is e r (view.refuses n h l) = i
+  supply-is {name} {hash} {random} e r (view.supplies w f l) = is-supplied name hash random e r
+
+  give-up-is : {o : Outcome Peer} → GaveUp p o → IsPeer (o .state)
+  give-up-is (view.refuses n h l) = i
+  give-up-is (view.ends w) = is-staged _
+
+pub call-is : (p : Peer) (c : Call) → IsCall c → IsPeer p → IsPeer (callOf p c .state)
+unfolding callOf
+call-is p (step s random room) r i = step-is p i r (stepped p s random room)
+call-is p (supply name hash random room) r i = supply-is p i (r .0) (r .1) (supplied p name hash random room)
+call-is p giveUp r i = give-up-is p i (gave-up p)
