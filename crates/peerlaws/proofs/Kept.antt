@@ -136,7 +136,7 @@ stands-same p (step s random room) (inr t) = ap (λ (o : Outcome Peer). o .state
 stands-same p (supply name hash random room) (inr t) = absurd t
 stands-same p giveUp (inr t) = absurd t
 
-all-same : (p : Peer) (cs : List Call) → AllStand p cs → after p cs ≡ p
+pub all-same : (p : Peer) (cs : List Call) → AllStand p cs → after p cs ≡ p
 unfolding after
 all-same p [] t = refl
 all-same p (c ∷ cs) t = all-same (callOf p c .state) cs (t .1) ∙ stands-same p c (t .0)

@@ -8,3 +8,4 @@ pub mod Taken
 pub mod Twins
 pub mod Identifiers
 pub mod ReadBack
+pub mod Retries

@@ -26,11 +26,11 @@ use Rattle.peer.specs.Moves.{sent, isRequest}
 use Rattle.peer.specs.declared.Peer.{Peer}
 use Rattle.peer.specs.State.{nameOf, lastRequest, lastReply, lastId, responseTo, outstanding}
 use Rattle.peerlaws.specs.Runs.{Call, step, supply, giveUp, callOf, IsPeer, IsCall}
-use Rattle.peerlaws.specs.Promises.{Request, requestOf, ReadsBack, RepliesReadBack}
+use Rattle.peerlaws.specs.Promises.{Request, Answers, requestOf, ReadsBack, RepliesReadBack}
 use Rattle.peerlaws.proofs.Kept.{few, answer-keeps}
 use Rattle.peerlaws.proofs.Views.{GaveUp, gave-up}
 use Rattle.peerlaws.proofs.Views as view
-use Rattle.peerlaws.proofs.Standing.{Keeps, Holds, waits-request, call-holds, reached}
+use Rattle.peerlaws.proofs.Standing.{Keeps, Holds, kept-size, waits-request, call-holds, reached}
 
 -- ---- a stored request has its MS-CHAPv2-ID at 6
 long : (kind : Kind) (q : List ℕ) (k : Packet) → isRequest kind ≡ true → Shape kind q k → 7 ≤ length q
@@ -98,5 +98,18 @@ call-back p (step s random room) r h z = step-back p s random room r h z
 call-back p (supply name hash random room) r h z = supply-back p name hash random room (r .0) (r .1) h z
 call-back p giveUp r h z = give-up-back (gave-up p) z
 
+-- n is L
+call-size : (p : Peer) (c : Call) (q : List ℕ) → IsCall c → Holds p → Answers p c q → length (callOf p c .octets) ≡ numberAt Big (callOf p c .octets) 2
+call-size p c q r h a =
+    let g = call-holds p c r h in
+    let k = answer-keeps p c q (h .is) (waits-request p h) r a in
+    rw (k .reply) at (kept-size (callOf p c .state .stage) (callOf p c .state) (k .stage) (g .keeps))
+
+size-back : (p : Peer) (c : Call) → IsCall c → Holds p → callOf p c .number ≡ 0 → length (callOf p c .octets) ≡ numberAt Big (callOf p c .octets) 2
+unfolding callOf
+size-back p (step s random room) r h z = call-size p (step s random room) (take (numberAt Big s 2) s) r h (z, refl)
+size-back p (supply name hash random room) r h z = call-size p (supply name hash random room) (lastRequest p) r h (z, refl)
+size-back p giveUp r h z = give-up-back (gave-up p) z
+
 pub replies-read-back : RepliesReadBack
-replies-read-back p c r i z = call-back p c i (reached p r) z
+replies-read-back p c r i z = (call-back p c i (reached p r) z, size-back p c i (reached p r) z)

@@ -144,7 +144,7 @@ chap-size : (code op id chapid : ℕ) (body : List ℕ) → length (chapPacket c
 unfolding chapPacket header numberAt
 chap-size code op id chapid body = omega arith
 
-kept-size : (stage : Stage) (p : Peer) → sent stage ≡ true → Keeps stage p → length (lastReply p) ≡ numberAt Big (lastReply p) 2
+pub kept-size : (stage : Stage) (p : Peer) → sent stage ≡ true → Keeps stage p → length (lastReply p) ≡ numberAt Big (lastReply p) 2
 unfolding outstanding responseTo responsePacket numberAt
 kept-size Begin p f k = clash refl f
 kept-size ChallengeResponseSent p f k = rw (k .0) (chap-size 2 2 _ _ _)

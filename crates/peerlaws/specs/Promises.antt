@@ -22,9 +22,9 @@ use Rattle.mschap.specs.Responses.{ntResponse, authenticatorOf, digitsOf}
 use Rattle.peer.specs.declared.Stage.{Stage}
 use Rattle.peer.specs.declared.Stage.the-variants.{Begin, ChallengeResponseSent, SuccessResponseSent, FailureResponseSent, Waiting, Success, Failed}
 use Rattle.peer.specs.declared.Peer.{Peer}
-use Rattle.peer.specs.State.{nameOf, lastRequest, lastReply, lastId, outstanding, rightDigits}
+use Rattle.peer.specs.State.{nameOf, lastRequest, lastReply, lastId, responseTo, outstanding, rightDigits}
 use Rattle.peer.specs.Moves.{sent, waiting, isRequest}
-use Rattle.peer.specs.Calls.{newOf, digitsIn, respondOf, confirmOf, failOf, waitOf, stepOf, supplyOf}
+use Rattle.peer.specs.Calls.{newOf, renewedIn, digitsIn, respondOf, confirmOf, failOf, waitOf, stepOf, suppliedBy, supplyOf}
 use Rattle.peerlaws.specs.Runs.{Call, step, supply, giveUp, callOf, roomOf, after, IsPeer, IsCall, AreCalls, Reached}
 
 -- ---- 1. "What a call answers": the number, n, the state and the buffer that a call can leave, where it took the state p and the buffer b
@@ -138,9 +138,13 @@ unnumberedState p = record {
 unfoldable pub unnumbered : Outcome Peer → Outcome Peer
 unnumbered o = outcome (o .number) (set (o .octets) 1 0) (unnumberedState (o .state))
 
+-- the Identifier is not the last answered one, of which only the SENT stages take note
+abbrev pub Unlike : Peer → ℕ → Type 0
+Unlike p i = sent (p .stage) ≡ true → i ≡ lastId p → ⊥
+
 abbrev pub EqualityOnly : Type 0
 EqualityOnly =
-    (p : Peer) (code i j : ℕ) (rest random : List ℕ) (room : ℕ) → (i ≡ lastId p → ⊥) → (j ≡ lastId p → ⊥) →
+    (p : Peer) (code i j : ℕ) (rest random : List ℕ) (room : ℕ) → Unlike p i → Unlike p j →
     unnumbered (stepOf p (code ∷ i ∷ rest) random room) ≡ unnumbered (stepOf p (code ∷ j ∷ rest) random room)
 
 -- ---- 5. "WAITING, SUCCESS, FAILED | no packet | 19"
@@ -181,10 +185,12 @@ ReadsBack request Waiting s w = ⊥
 ReadsBack request Success s w = ⊥
 ReadsBack request Failed s w = ⊥
 
+-- and n, which is how many octets it has, is its L
 abbrev pub RepliesReadBack : Type 0
 RepliesReadBack =
     (p : Peer) (c : Call) → Reached p → IsCall c → callOf p c .number ≡ 0 →
     ReadsBack (requestOf p c) (callOf p c .state .stage) (callOf p c .state) (callOf p c .octets)
+    × (length (callOf p c .octets) ≡ numberAt Big (callOf p c .octets) 2)
 
 -- "the peer takes any MS-CHAPv2-ID": k is read of the packet, and is asked for its kind and its Identifier alone
 pub record Takes (p : Peer) (s random : List ℕ) (room : ℕ) (k : Packet) : Type 0 where
@@ -213,3 +219,27 @@ pub record Standing (p : Peer) : Type 0 where
 
 abbrev pub StateStands : Type 0
 StateStands = (p : Peer) → Reached p → Standing p
+
+-- ---- 8. "it keeps the last answered request"; "answer 1; WAITING, keeping that request and C"
+abbrev pub RequestKept : Type 0
+RequestKept =
+    (p : Peer) (s random : List ℕ) (room : ℕ) → stepOf p s random room .number ≤ 1 →
+    lastRequest (stepOf p s random room .state) ≡ take (numberAt Big s 2) s
+
+-- "a Response to C follows, under the kept request's Identifier and MS-CHAPv2-ID": k was read of the packet s, which was answered 1, and p′
+-- is the state after it and any refused calls
+abbrev pub RetryAnswersC : Type 0
+RetryAnswersC =
+    (p p′ : Peer) (s random : List ℕ) (room : ℕ) (k : Packet) (cs : List Call) (name hash own : List ℕ) (room′ : ℕ) →
+    readPacket end.Peer s ≡ gives k → stepOf p s random room .number ≡ 1 →
+    AllStand (stepOf p s random room .state) cs → p′ ≡ after (stepOf p s random room .state) cs → length name ≤ 256 →
+    supplyOf p′ name hash own room′
+    ≡ fitting room′ p′ (outcome 0 (responseTo (k .id .0) (k .chapid .0) (renewedIn k (take (k .length) s)) own name hash) (suppliedBy p′ name hash own))
+
+-- ---- 9. The random octets are "used only as the peer challenge of a Response made in that step"
+pub record RandomUsed (p : Peer) (s random : List ℕ) (room : ℕ) : Type 0 where
+  pub elsewhere : (p .stage ≡ Begin → ⊥) → (other : List ℕ) → stepOf p s random room ≡ stepOf p s other room
+  pub challenge : p .stage ≡ Begin → stepOf p s random room .number ≡ 0 → part (stepOf p s random room .octets) 10 16 ≡ random
+
+abbrev pub RandomOnlyInResponse : Type 0
+RandomOnlyInResponse = (p : Peer) (s random : List ℕ) (room : ℕ) → length random ≡ 16 → RandomUsed p s random room
