@@ -1,3 +1,4 @@
 pub mod Laws
 pub mod Carry
 pub mod ServerRuns
+pub mod PeerRuns

@@ -9,7 +9,7 @@ use Rattle.octets.specs.Lists.{put}
 use Rattle.octets.proofs.Exits.{pick-true, pick-false}
 use Rattle.octets.proofs.Lists.{put-put, put-three, put-whole}
 use Rattle.peer.specs.declared.Peer.{Peer}
-use Rattle.state.specs.PeerOctets.{IsPeer}
+use Rattle.peerlaws.specs.Runs.{IsPeer}
 use Rattle.server.specs.declared.Server.{Server}
 use Rattle.state.specs.Stored.{stored}
 use Rattle.state.specs.PeerOctets.{numbersOf, keysOf, arraysOf, octetsOfPeer}

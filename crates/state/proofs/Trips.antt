@@ -13,7 +13,7 @@ use Rattle.octets.proofs.Lists.{length-sized, sized-append}
 use Rattle.peer.specs.declared.Stage.{Stage as PeerStage}
 use Rattle.peer.specs.declared.Stage.the-variants as peer
 use Rattle.peer.specs.declared.Peer.{Peer}
-use Rattle.state.specs.PeerOctets.{IsPeer}
+use Rattle.peerlaws.specs.Runs.{IsPeer}
 use Rattle.server.specs.declared.Stage.{Stage as ServerStage}
 use Rattle.server.specs.declared.Stage.the-variants as server
 use Rattle.server.specs.declared.Server.{Server}

@@ -1,8 +1,7 @@
 -- A peer's state as octets: the layout of include/zirgumtak.h.
 use Prim.Native.Nat.{ℕ, _/_, _%_}
-use mathlib.Core.Path.{_≡_}
 use mathlib.Core.List.{List, [], _∷_, _++_}
-use lib.ListN.{length, getD, drop}
+use lib.ListN.{getD, drop}
 use lib.Dec.{eqb}
 use Rattle.octets.specs.Choice.{pick}
 use Rattle.octets.specs.Lists.{sized}
@@ -63,12 +62,3 @@ arraysOf p = p .name ++ p .request ++ p .reply
 
 unfoldable pub octetsOfPeer : Peer → List ℕ
 octetsOfPeer p = numbersOf p ++ keysOf p ++ arraysOf p
-
--- p is a value of the struct: its arrays have their sizes
-pub record IsPeer (p : Peer) : Type 0 where
-  pub name : length (p .name) ≡ 256
-  pub hash : length (p .hash) ≡ 16
-  pub authchallenge : length (p .authchallenge) ≡ 16
-  pub peerchallenge : length (p .peerchallenge) ≡ 16
-  pub request : length (p .request) ≡ 1020
-  pub reply : length (p .reply) ≡ 315

@@ -1,4 +1,4 @@
-use Rattle.state.specs.PeerOctets.{IsPeer}
+use Rattle.peerlaws.specs.Runs.{IsPeer}
 use Rattle.state.proofs.Puts.{stored-not, peer-put}
 use borrow.Author.Needs.{needs}
 use Rattle.state.proofs.encode_peer.Statement.{statement}

@@ -1,4 +1,4 @@
-use Rattle.state.specs.PeerOctets.{IsPeer}
+use Rattle.peerlaws.specs.Runs.{IsPeer}
 use Rattle.state.proofs.Puts.{arrays-put}
 use borrow.Author.Needs.{needs}
 use Rattle.state.proofs.put_arrays.Statement.{statement}
