@@ -1,11 +1,12 @@
 -- Every reply reads back at the server's reader as the packet meant.
 use Prim.Native.Nat.{ℕ, _≤_}
 use mathlib.Core.Path.{_≡_, refl, sym, ap, _∙_}
-use mathlib.Core.List.{List}
+use mathlib.Core.List.{List, [], append-nil}
 use mathlib.Core.Bool.{true}
 use native.Mathlib.Omega.{arith}
 use lib.ListN.{length, getD, take, length-take}
 use lib.Seq.{getD-take}
+use Rattle.octets.specs.Lists.{part}
 use Rattle.octets.specs.Octets.{numberAt}
 use Rattle.octets.specs.declared.Order.the-variants.{Big}
 use Rattle.octets.proofs.Exits.{clash}
@@ -58,9 +59,11 @@ module _ (request w : List ℕ) (s : Peer) (is : IsPeer s) (id : lastId s ≡ ge
   read-back ChallengeResponseSent f k =
       let nt = ntResponse (s .authchallenge) (s .peerchallenge) (userOf (nameOf s)) (s .hash) in
       let e : w ≡ responsePacket (getD request 1 0) (getD request 6 0) (s .peerchallenge) nt (nameOf s) = sym reply ∙ k .0 ∙ (λ j. responsePacket (id j) ((k .2 ∙ chapid) j) (s .peerchallenge) nt (nameOf s)) in
-      rw e (response-back (getD request 1 0) (getD request 6 0) (s .peerchallenge) nt (nameOf s) (is .peerchallenge) (length-nt-response _ _ _ _) (few s is))
-  read-back SuccessResponseSent f k = rw (sym reply ∙ k .0 ∙ ap successResponse id) (success-response-back (getD request 1 0))
-  read-back FailureResponseSent f k = rw (sym reply ∙ k .0 ∙ ap failureResponse id) (failure-response-back (getD request 1 0))
+      let b = response-back (getD request 1 0) (getD request 6 0) (s .peerchallenge) nt (nameOf s) (is .peerchallenge) (length-nt-response _ _ _ _) (few s is) in
+      let bare = sym (append-nil (responsePacket (getD request 1 0) (getD request 6 0) (s .peerchallenge) nt (nameOf s))) in
+      rw e (b .reads, ap (λ (l : List ℕ). part l 10 16) bare ∙ b .challenge-is [], ap (λ (l : List ℕ). part l 34 24) bare ∙ b .response-is [], ap (λ (l : List ℕ). part l 59 (length (nameOf s))) bare ∙ b .tail-is [])
+  read-back SuccessResponseSent f k = rw (sym reply ∙ k .0 ∙ ap successResponse id) (success-response-back (getD request 1 0) .reads)
+  read-back FailureResponseSent f k = rw (sym reply ∙ k .0 ∙ ap failureResponse id) (failure-response-back (getD request 1 0) .reads)
   read-back Waiting f k = clash refl f
   read-back Success f k = clash refl f
   read-back Failed f k = clash refl f

@@ -16,7 +16,6 @@ use Rattle.packet.specs.declared.Kind.the-variants as kind
 use Rattle.packet.specs.declared.Packet.{Packet}
 use Rattle.packet.specs.Reader.{readPacket, reading, place, nowhere}
 use Rattle.packet.specs.Forms.{successResponse}
-use Rattle.packet.proofs.Back.{Back}
 use Rattle.mschap.specs.Users.{userOf}
 use Rattle.mschap.specs.Responses.{ntResponse, authenticatorOf, digitsOf}
 use Rattle.peer.specs.declared.Stage.{Stage}
@@ -28,7 +27,7 @@ use Rattle.peer.specs.Calls.{newOf, renewedIn, digitsIn, respondOf, confirmOf, 
 use Rattle.peerlaws.specs.Runs.{Call, step, supply, giveUp, callOf, roomOf, after, IsPeer, IsCall, AreCalls, Reached}
 
 -- ---- 1. "What a call answers": the number, n, the state and the buffer that a call can leave, where it took the state p and the buffer b
-pub data Leaves (p : Peer) (b : List ℕ) : (k n : ℕ) (s : Peer) (after : List ℕ) → Type 0 where
+pub data Leaves (p : Peer) (b : List ℕ) : (k n : ℕ) (s : Peer) (b′ : List ℕ) → Type 0 where
   written : (q : List ℕ) (s : Peer) → length q ≤ length b → sent (s .stage) ≡ true → Leaves p b 0 (length q) s (over q b)
   credentials : (s : Peer) → s .stage ≡ Waiting → Leaves p b 1 0 s b
   authenticated : (s : Peer) → s .stage ≡ Success → Leaves p b 2 0 s b
@@ -38,8 +37,8 @@ pub data Leaves (p : Peer) (b : List ℕ) : (k n : ℕ) (s : Peer) (after : List
 
 abbrev pub AnswersLeave : Type 0
 AnswersLeave =
-    (p : Peer) (c : Call) (k n : ℕ) (s : Peer) (before after : List ℕ) → length before ≡ roomOf c → Does (callOf p c) k n s before after →
-    Leaves p before k n s after
+    (p : Peer) (c : Call) (k n : ℕ) (s : Peer) (b b′ : List ℕ) → length b ≡ roomOf c → Does (callOf p c) k n s b b′ →
+    Leaves p b k n s b′
 
 -- ---- 2. A Success Response goes out first only in CHALLENGE_RESPONSE_SENT, and only for the right string
 -- the repeat rule's case: "in the three SENT stages a Request whose first L octets equal the last answered request's"
@@ -169,18 +168,21 @@ requestOf p (step s random room) = s
 requestOf p (supply name hash random room) = lastRequest p
 requestOf p giveUp = []
 
--- what the server's reader makes of the reply w to that packet, whatever padding follows: it has the packet's Identifier, and the
--- Response has its MS-CHAPv2-ID too, and what the state s after the call has
+-- what the server's reader makes of w, whatever padding follows
+abbrev pub ReadsAs : List ℕ → Packet → Type 0
+ReadsAs w x = (pad : List ℕ) → readPacket end.Server (w ++ pad) ≡ gives x
+
+-- the reply w to that packet, where s is the state after the call: it has the packet's Identifier, and a Response has its MS-CHAPv2-ID too,
+-- and the peer challenge, the NT-Response and the name of s
 abbrev pub ReadsBack : List ℕ → Stage → Peer → List ℕ → Type 0
 ReadsBack request Begin s w = ⊥
 ReadsBack request ChallengeResponseSent s w =
-    Back end.Server w
-    (reading kind.Response (getD request 1 0) (getD request 6 0) (59 + length (nameOf s)) 0 (place 10 16) (place 34 24) (place 59 (length (nameOf s))))
-    (s .peerchallenge) (ntResponse (s .authchallenge) (s .peerchallenge) (userOf (nameOf s)) (s .hash)) (nameOf s)
-ReadsBack request SuccessResponseSent s w =
-    Back end.Server w (reading kind.SuccessResponse (getD request 1 0) 0 6 0 nowhere nowhere nowhere) [] [] []
-ReadsBack request FailureResponseSent s w =
-    Back end.Server w (reading kind.FailureResponse (getD request 1 0) 0 6 0 nowhere nowhere nowhere) [] [] []
+    ReadsAs w (reading kind.Response (getD request 1 0) (getD request 6 0) (59 + length (nameOf s)) 0 (place 10 16) (place 34 24) (place 59 (length (nameOf s))))
+    × (part w 10 16 ≡ s .peerchallenge)
+    × (part w 34 24 ≡ ntResponse (s .authchallenge) (s .peerchallenge) (userOf (nameOf s)) (s .hash))
+    × (part w 59 (length (nameOf s)) ≡ nameOf s)
+ReadsBack request SuccessResponseSent s w = ReadsAs w (reading kind.SuccessResponse (getD request 1 0) 0 6 0 nowhere nowhere nowhere)
+ReadsBack request FailureResponseSent s w = ReadsAs w (reading kind.FailureResponse (getD request 1 0) 0 6 0 nowhere nowhere nowhere)
 ReadsBack request Waiting s w = ⊥
 ReadsBack request Success s w = ⊥
 ReadsBack request Failed s w = ⊥
