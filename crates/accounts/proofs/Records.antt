@@ -10,7 +10,7 @@ use lib.Seq.{drop-drop, length-take-le}
 use borrow.Author.Tests.{le-leb, lt-leb, leb-true}
 use Rattle.octets.specs.declared.Order.the-variants.{Little}
 use Rattle.octets.proofs.Parts.{number-take}
-use Rattle.octets.proofs.Exits.{exits, pick-true, pick-false, tested, both, and-both, and-first, and-second}
+use Rattle.octets.proofs.Exits.{below, exits, pick-true, pick-false, tested, both, and-both, and-first, and-second}
 use Rattle.accounts.specs.Records.{lengthOf, framed, head, Stands, cut, records}
 
 -- ---- framing
@@ -54,7 +54,11 @@ module _ (t l : List ℕ) (at n : ℕ) (d : l ≡ drop at t) (e : n ≡ lengthOf
         inside = rw p (omega (arith, length-take-le n l k, length-drop at t, ap length d));
       }
 
-pub ruleset stands = (exits, stands-short, stands-past, stands-here)
+-- fewer than 4 octets left over
+pub stands-few : (t l : List ℕ) (at : ℕ) → l ≡ drop at t → length l < 4 → Stands t at []
+stands-few t l at d h = below (lengthOf l) 4 (λ n. stands-short t l at (lengthOf l) d refl n) (λ n. stands-past t l at (lengthOf l) d refl n (omega arith))
+
+pub ruleset stands = (exits, stands-few, stands-short, stands-past, stands-here)
 
 -- ---- the list of records
 cut-skip : (k : ℕ) (l : List ℕ) → k ≤ length l → cut k l ≡ cut 0 (drop k l)

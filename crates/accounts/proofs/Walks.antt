@@ -11,9 +11,10 @@ use Rattle.octets.specs.Choice.{pick}
 use Rattle.octets.proofs.Exits.{exits, pick-true, pick-false, passed, tested, and-both, and-first, and-second, gave-not, gave-true, gave-false}
 use Rattle.answer.specs.Outcome.{Told, gives}
 use Rattle.accounts.specs.Records.{framed, Stands, records, every, sound, entry, placed, entries}
-use Rattle.accounts.specs.Accounts.{recordGood, itemGood, wellFormed, accountIn, earlier, first, accountOf, malformed, holds, seen, findTold}
+use Rattle.accounts.specs.Accounts.{codeOf, recordGood, itemGood, wellFormed, isAccountOf, accountIn, earlier, lookupOf, first, accountOf, malformed, holds, seen, findTold}
 use Rattle.accounts.specs.declared.Lookup.{Lookup}
 use Rattle.accounts.specs.declared.Lookup.the-variants.{Absent, Account}
+use Rattle.accounts.specs.declared.Kept.{Kept}
 use Rattle.accounts.specs.declared.Seen.{Seen}
 use Rattle.accounts.proofs.Records.{next, stops, ends}
 
@@ -41,6 +42,20 @@ sees-bad user k at q rs f = pick-false _ _ _ (pick-false _ _ _ f)
 sees-none : (user : List ℕ) (k : Lookup) (at : ℕ) → sees user k at [] ≡ holds k
 unfolding sees every placed first
 sees-none user k at = pick-true _ _ _ refl ∙ ap holds (earlier-none k)
+
+-- a turn's part at the record q: what was kept stays, or what q tells, or nothing
+module _ (k : Kept) (user q : List ℕ) (at : ℕ) where
+  pub keep-found : k .found ≡ true → lookupOf k ≡ earlier (lookupOf k) (accountIn user (entry at q))
+  unfolding lookupOf
+  keep-found h = let e = pick-true _ (Account (k .code) (k .hash)) Absent h in rw e refl
+
+  pub keep-here : (code : ℕ) (here : Bool) → k .found ≡ false → here ≡ isAccountOf user q → here ≡ true → code ≡ codeOf q → Account code (at + 6) ≡ earlier (lookupOf k) (accountIn user (entry at q))
+  unfolding lookupOf accountIn
+  keep-here code here h g i e = let f = pick-false _ (Account (k .code) (k .hash)) Absent h in rw f (rw e (sym (pick-true _ _ _ (sym g ∙ i))))
+
+  pub keep-none : (here : Bool) → k .found ≡ false → here ≡ isAccountOf user q → here ≡ false → lookupOf k ≡ earlier (lookupOf k) (accountIn user (entry at q))
+  unfolding lookupOf accountIn
+  keep-none here h g i = let f = pick-false _ (Account (k .code) (k .hash)) Absent h in rw f (sym (pick-false _ _ _ (sym g ∙ i)))
 
 -- ---- the loop: all before `at` is behind, with k kept of it
 pub record Walking (t user : List ℕ) (k : Lookup) (at : ℕ) : Type 0 where
@@ -86,8 +101,8 @@ module _ (t user : List ℕ) (k : Lookup) (at : ℕ) (q : List ℕ) (w : Walking
         let p = next t at q s there in
         record { most = omega arith; is = w .is ∙ ap (sees user k at) (p .is) ∙ sees-more user k at q _ (p .framed) formed ∙ rw e }
 
-pub walk-done : (t user : List ℕ) (k : Lookup) (at : ℕ) → Walking t user k at → length t ≤ at → holds k ≡ seen t user
-walk-done t user k at w h = sym (w .is ∙ ap (sees user k at) (ends t at h) ∙ sees-none user k at)
+pub walk-done : (t user : List ℕ) (k m : Lookup) (at : ℕ) → Walking t user k at → length t ≤ at → m ≡ k → holds m ≡ seen t user
+walk-done t user k m at w h e = ap holds e ∙ sym (w .is ∙ ap (sees user k at) (ends t at h) ∙ sees-none user k at)
 
 -- ---- what the walk saw
 module _ (t user : List ℕ) (s : Seen) (e : s ≡ seen t user) where

@@ -15,6 +15,7 @@ use Rattle.accounts.specs.declared.Lookup.the-variants as lookup
 use Rattle.accounts.specs.declared.Found.{Found}
 use Rattle.accounts.specs.declared.Found.the-variants as found
 use Rattle.accounts.specs.declared.Seen.{Seen}
+use Rattle.accounts.specs.declared.Kept.{Kept}
 
 -- ---- well formed
 -- "Kind 1: code (2 octets little-endian: 0, 646, 647, 648 or 649), hash 16, name; record length 22 to 278"
@@ -83,6 +84,10 @@ toldFound (found.Account code hash) = gives (lookup.Account code hash)
 -- whether there is a record at a place, and it is good
 unfoldable pub itemGood : List ℕ → Bool
 itemGood q = pick (eqb (length q) 0) false (recordGood q)
+
+-- what the values that the walk carries stand for
+unfoldable pub lookupOf : Kept → Lookup
+lookupOf k = pick (k .found) (lookup.Account (k .code) (k .hash)) lookup.Absent
 
 -- the walk sees that the table is malformed, or what it holds of the user
 abbrev pub malformed : Seen

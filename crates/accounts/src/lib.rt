@@ -4,7 +4,7 @@ ghost use Prim.Native.Nat.{_≤_};
 ghost use Rattle.answer.specs.Answer.{numberOf};
 ghost use Rattle.answer.specs.Outcome.{gives};
 ghost use Rattle.accounts.specs.Records.{Stands, entry};
-ghost use Rattle.accounts.specs.Accounts.{codeOf, isCode, accountGood, recordGood, itemGood, isAccountOf, accountIn, earlier, seen, checkNumber, findTold, toldFound};
+ghost use Rattle.accounts.specs.Accounts.{codeOf, isCode, accountGood, recordGood, itemGood, isAccountOf, accountIn, earlier, lookupOf, seen, checkNumber, findTold, toldFound};
 use answer::Answer;
 use answer::Refusal;
 use octets::Order;
@@ -39,11 +39,27 @@ const MALFORMED: Seen = Seen {
     lookup: Lookup::Absent,
 };
 
+// A lookup in the making, as plain values: the walk carries them from record to record.
+struct Kept {
+    found: bool,
+    code: u16,
+    hash: usize,
+}
+
+const NOTHING: Kept = Kept {
+    found: false,
+    code: 0,
+    hash: 0,
+};
+
 // The record at `at`; no octets where none begins there.
 fn record_at(table: &[u8], at: usize) -> &[u8]
     ensures { λ r. ⌜ Stands (now (table .entry)) at (now r) ⌝ }
 {
     let left = rest(table, at);
+    if left.len() < 4 {
+        return &left[0..0];
+    }
     let n = number_at(Order::Little, left, 0);
     if n < 4 {
         return &left[0..0];
@@ -121,35 +137,36 @@ fn is_account_of(user: &[u8], item: &[u8]) -> bool
     false
 }
 
-// What the record at `at` tells of the user.
-fn account_in(user: &[u8], at: usize, item: &[u8]) -> Lookup
+// What was kept of the records before, or else what the record at `at` tells: it is looked at in any case.
+fn keep(kept: Kept, user: &[u8], at: usize, item: &[u8]) -> Kept
     requires { ⌜ at ≤ 65536 ⌝ }
-    ensures { λ r. ⌜ r ≡ accountIn (now (user .entry)) (entry at (now (item .entry))) ⌝ }
+    ensures { λ r. ⌜ lookupOf r ≡ earlier (lookupOf kept) (accountIn (now (user .entry)) (entry at (now (item .entry)))) ⌝ }
 {
-    if is_account_of(user, item) {
+    let here = is_account_of(user, item);
+    if kept.found {
+        return kept;
+    }
+    if here {
         let code = code_of(item);
-        return Lookup::Account { code, hash: at + 6 };
+        return Kept {
+            found: true,
+            code,
+            hash: at + 6,
+        };
+    }
+    kept
+}
+
+fn lookup_of(kept: Kept) -> Lookup
+    ensures { λ r. ⌜ r ≡ lookupOf kept ⌝ }
+{
+    if kept.found {
+        return Lookup::Account {
+            code: kept.code,
+            hash: kept.hash,
+        };
     }
     Lookup::Absent
-}
-
-// What the first of two tells, or else the second.
-fn earlier_of(one: Lookup, other: Lookup) -> Lookup
-    ensures { λ r. ⌜ r ≡ earlier one other ⌝ }
-{
-    match one {
-        Lookup::Absent => other,
-        Lookup::Account { code: _, hash: _ } => one,
-    }
-}
-
-// What was kept of the records before, or else what the record at `at` tells: it is looked at in any case.
-fn keep(kept: Lookup, user: &[u8], at: usize, item: &[u8]) -> Lookup
-    requires { ⌜ at ≤ 65536 ⌝ }
-    ensures { λ r. ⌜ r ≡ earlier kept (accountIn (now (user .entry)) (entry at (now (item .entry)))) ⌝ }
-{
-    let here = account_in(user, at, item);
-    earlier_of(kept, here)
 }
 
 // One walk, which goes on past the user's account to the end of the table.
@@ -159,7 +176,7 @@ fn walk(table: &[u8], user: &[u8]) -> Seen
     if 65536 < table.len() {
         return MALFORMED;
     }
-    let mut kept = Lookup::Absent;
+    let mut kept = NOTHING;
     let mut at = 0;
     while at < table.len() {
         let item = record_at(table, at);
@@ -169,9 +186,10 @@ fn walk(table: &[u8], user: &[u8]) -> Seen
         kept = keep(kept, user, at, item);
         at = at + item.len();
     }
+    let lookup = lookup_of(kept);
     Seen {
         sound: true,
-        lookup: kept,
+        lookup,
     }
 }
 

@@ -7,6 +7,10 @@ record-at-spec =
     tie.close
     (tie.spec
     (λ c κs. search stands)
+    (λ c. search stands)
+    (λ c. search stands)
+    (λ c. search stands)
+    (λ c. search stands)
     (λ c κs. search stands)
     (λ c. search stands)
     (λ c. search stands)
