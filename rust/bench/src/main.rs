@@ -2,8 +2,8 @@
 //! table.
 //!
 //! Both have the same work: the same octets in and out, states decoded and encoded, the account
-//! that is looked for at the end of the table, so that both walk all of it, and names of one
-//! length, so that both compare them.
+//! that is looked for at the end of the table, so that both walk all of it, names of one length,
+//! so that both compare them whole, and the whole reading of a packet kept.
 
 mod openssl;
 mod rows;

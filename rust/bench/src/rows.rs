@@ -32,6 +32,7 @@ pub fn each(batches: usize, mut show: impl FnMut(&Row)) {
     };
     rows.digests();
     rows.arithmetic();
+    rows.table();
     rows.judged_responses();
     rows.peer_step();
     rows.readings();
@@ -66,6 +67,13 @@ impl Rows<'_> {
         self.stateless("NT-Response", call, 24);
     }
 
+    /// The walk alone.
+    fn table(&mut self) {
+        let table = table_of(2500);
+        let call = Call::AccountsCheck { table: &table };
+        self.stateless("checking a table of 2,500 accounts", call, 0);
+    }
+
     /// A right Response by the last account of the table: the whole walk, the arithmetic of both
     /// the Response and the authenticator string, and a Success Request written.
     fn judged_responses(&mut self) {
@@ -76,9 +84,7 @@ impl Rows<'_> {
             (2500, "2,500 accounts"),
         ] {
             let name = user(accounts - 1);
-            let table: Vec<u8> = (0..accounts)
-                .flat_map(|i| account(0, &HASH, &user(i)))
-                .collect();
+            let table = table_of(accounts);
             let exchange = Exchange {
                 name,
                 hash: HASH,
@@ -246,6 +252,12 @@ fn started() -> Vec<u8> {
 }
 
 /// Names of one length; 2,500 accounts fill a table.
+fn table_of(accounts: usize) -> Vec<u8> {
+    (0..accounts)
+        .flat_map(|i| account(0, &HASH, &user(i)))
+        .collect()
+}
+
 fn user(number: usize) -> Vec<u8> {
     format!("{number:04}").into_bytes()
 }
