@@ -1,0 +1,435 @@
+// Account tables made of lines of text: document 01, "Account table".
+ghost use mathlib.Core.Path.{_≡_};
+ghost use mathlib.Core.Bool.{true};
+ghost use Prim.Native.Nat.{_+_, _≤_};
+ghost use lib.ListN.{length, take, drop};
+ghost use Rattle.octets.specs.Lists.{cells, over, Appended};
+ghost use Rattle.octets.specs.Octets.{unhexAt};
+ghost use Rattle.accounts.specs.Accounts.{isCode, wellFormed};
+ghost use Rattle.roster.specs.Account.{accountHead, accountRecord, recordFor, Holds, Formed};
+ghost use Rattle.roster.specs.Lines.{upto, before, after, has, trimmed, hexSecret, spelt, secretOf, codeIn, codeAfter, noEntry, entryWith, entryOf};
+use password::Spelling;
+
+// What a line is: blank, an account, or what is wrong with it. Full: its record no longer fits the table.
+pub enum Line {
+    Blank,
+    Account,
+    NoPassword,
+    NoName,
+    LongName,
+    BadCode,
+    BadHash,
+    NotUtf8,
+    LongPassword,
+    Full,
+}
+
+// A password's hash, or what is wrong with the password.
+struct Secret {
+    line: Line,
+    hash: [u8; 16],
+}
+
+// What a line says. The name is the line's first octets.
+pub struct Entry {
+    pub line: Line,
+    pub code: u16,
+    pub hash: [u8; 16],
+    pub namelen: usize,
+}
+
+// A record, at the front of an array.
+struct Record {
+    octets: [u8; 278],
+    len: usize,
+}
+
+// What was made of a line: how long the table is after it.
+struct Taken {
+    line: Line,
+    len: usize,
+}
+
+// What was made of a text: how long the table is, and how many lines were read. ended: Blank where that was all of them, and
+// else what is wrong with the last.
+pub struct Made {
+    pub ended: Line,
+    pub lines: usize,
+    pub len: usize,
+}
+
+// ---- records
+
+fn is_code(code: u16) -> bool
+    ensures { λ r. ⌜ r ≡ isCode code ⌝ }
+{
+    match code {
+        0 => true,
+        646 => true,
+        647 => true,
+        648 => true,
+        649 => true,
+        _ => false,
+    }
+}
+
+fn head_of(l: u16, code: u16) -> [u8; 6]
+    ensures { λ r. ⌜ r ≡ accountHead l code ⌝ }
+{
+    [
+        (l % 256) as u8,
+        (l / 256) as u8,
+        1,
+        0,
+        (code % 256) as u8,
+        (code / 256) as u8,
+    ]
+}
+
+// The record over the front of dst.
+fn lay(dst: &mut [u8], code: u16, hash: [u8; 16], name: &[u8])
+    requires { ⌜ (length (now dst) ≡ 278) × (length (now name) ≤ 256) ⌝ }
+    ensures { λ r. ⌜ now (dst .exit) ≡ over (accountRecord code hash (now (name .entry))) (now (dst .entry)) ⌝ }
+{
+    let l = 22 + name.len();
+    let head = head_of(l as u16, code);
+    octets::put_at(dst, 0, &head);
+    octets::put_at(dst, 6, &hash);
+    octets::put_at(dst, 22, name);
+}
+
+fn record_of(code: u16, hash: [u8; 16], name: &[u8]) -> Record
+    requires { ⌜ length (now name) ≤ 256 ⌝ }
+    ensures { λ r. ⌜ Holds (accountRecord code hash (now (name .entry))) (r .octets) (r .len) ⌝ }
+{
+    let mut octets = [0u8; 278];
+    lay(&mut octets, code, hash, name);
+    Record {
+        octets,
+        len: 22 + name.len(),
+    }
+}
+
+fn record_for(code: u16, hash: [u8; 16], name: &[u8]) -> Record
+    ensures { λ r. ⌜ Holds (recordFor code hash (now (name .entry))) (r .octets) (r .len) ⌝ }
+{
+    if !is_code(code) {
+        return Record {
+            octets: [0u8; 278],
+            len: 0,
+        };
+    }
+    if 256 < name.len() {
+        return Record {
+            octets: [0u8; 278],
+            len: 0,
+        };
+    }
+    record_of(code, hash, name)
+}
+
+// Appends the record of an account, and gives the place after it. Where it does not fit, or the code or the name has no
+// record, the table stays as it is and the place comes back.
+pub fn append_account(table: &mut [u8], at: usize, code: u16, hash: [u8; 16], name: &[u8]) -> usize
+    ensures { λ r. ⌜ Appended (now (table .entry)) at (recordFor code hash (now (name .entry))) r (now (table .exit)) ⌝ }
+{
+    let made = record_for(code, hash, name);
+    let octets = made.octets;
+    let len = made.len;
+    octets::append(table, at, octets::part(&octets, 0, len))
+}
+
+// ---- fields
+
+// The place of the first x, or the end.
+fn place(s: &[u8], x: u8) -> usize
+    ensures { λ r. ⌜ (r ≡ upto x (now (s .entry))) × (r ≤ length (now (s .entry))) ⌝ }
+{
+    let mut i = 0;
+    while i < s.len() {
+        if s[i] == x {
+            return i;
+        }
+        i += 1;
+    }
+    i
+}
+
+fn field_before(s: &[u8], x: u8) -> &[u8]
+    ensures { λ r. ⌜ now r ≡ before x (now (s .entry)) ⌝ }
+{
+    let n = place(s, x);
+    octets::part(s, 0, n)
+}
+
+fn field_after(s: &[u8], x: u8) -> &[u8]
+    ensures { λ r. ⌜ now r ≡ after x (now (s .entry)) ⌝ }
+{
+    let n = place(s, x);
+    octets::rest(s, n + 1)
+}
+
+fn has_octet(s: &[u8], x: u8) -> bool
+    ensures { λ r. ⌜ r ≡ has x (now (s .entry)) ⌝ }
+{
+    let n = place(s, x);
+    n < s.len()
+}
+
+// A line without the carriage return at its end.
+fn trim(s: &[u8]) -> &[u8]
+    ensures { λ r. ⌜ now r ≡ trimmed (now (s .entry)) ⌝ }
+{
+    if s.len() == 0 {
+        return s;
+    }
+    let n = s.len() - 1;
+    if !octets::octet_is(s, n, 13) {
+        return s;
+    }
+    octets::part(s, 0, n)
+}
+
+// The octets of the 32 hex digits after `hash=`.
+fn hash_in(s: &[u8]) -> [u8; 16]
+    ensures { λ r. ⌜ r ≡ cells 16 (unhexAt (drop 5 (now (s .entry)))) ⌝ }
+{
+    octets::from_hex(octets::rest(s, 5))
+}
+
+fn hex_secret(s: &[u8]) -> Secret
+    ensures { λ r. ⌜ r ≡ hexSecret (now (s .entry)) ⌝ }
+{
+    if s.len() != 37 {
+        return Secret {
+            line: Line::BadHash,
+            hash: [0u8; 16],
+        };
+    }
+    if !octets::hex_stands(true, s, 5, 32) {
+        return Secret {
+            line: Line::BadHash,
+            hash: [0u8; 16],
+        };
+    }
+    let hash = hash_in(s);
+    Secret {
+        line: Line::Account,
+        hash,
+    }
+}
+
+fn spelt_as(spelling: Spelling, hash: [u8; 16]) -> Secret
+    ensures { λ r. ⌜ r ≡ spelt spelling hash ⌝ }
+{
+    match spelling {
+        Spelling::Good => Secret {
+            line: Line::Account,
+            hash,
+        },
+        Spelling::NotUtf8 => Secret {
+            line: Line::NotUtf8,
+            hash,
+        },
+        Spelling::TooLong => Secret {
+            line: Line::LongPassword,
+            hash,
+        },
+    }
+}
+
+// `hash=` and 32 hex digits, or a password.
+fn secret_of(s: &[u8]) -> Secret
+    ensures { λ r. ⌜ r ≡ secretOf (now (s .entry)) ⌝ }
+{
+    if octets::stands_at(s, 0, b"hash=") {
+        return hex_secret(s);
+    }
+    let h = password::hash(s);
+    let spelling = h.spelling;
+    let hash = h.hash;
+    spelt_as(spelling, hash)
+}
+
+// The code's number; 1 for any other field.
+fn code_in(s: &[u8]) -> u16
+    ensures { λ r. ⌜ r ≡ codeIn (now (s .entry)) ⌝ }
+{
+    if octets::equal(s, b"0") {
+        return 0;
+    }
+    if octets::equal(s, b"646") {
+        return 646;
+    }
+    if octets::equal(s, b"647") {
+        return 647;
+    }
+    if octets::equal(s, b"648") {
+        return 648;
+    }
+    if octets::equal(s, b"649") {
+        return 649;
+    }
+    1
+}
+
+fn code_after(rest: &[u8]) -> u16
+    ensures { λ r. ⌜ r ≡ codeAfter (now (rest .entry)) ⌝ }
+{
+    if !has_octet(rest, 9) {
+        return 0;
+    }
+    code_in(field_after(rest, 9))
+}
+
+// ---- a line
+
+fn no_entry(line: Line) -> Entry
+    ensures { λ r. ⌜ r ≡ noEntry line ⌝ }
+{
+    Entry {
+        line,
+        code: 0,
+        hash: [0u8; 16],
+        namelen: 0,
+    }
+}
+
+// A line with a name of n octets.
+fn entry_with(s: &[u8], n: usize) -> Entry
+    ensures { λ r. ⌜ r ≡ entryWith (now (s .entry)) n ⌝ }
+{
+    let rest = field_after(s, 9);
+    let code = code_after(rest);
+    if !is_code(code) {
+        return no_entry(Line::BadCode);
+    }
+    let made = secret_of(field_before(rest, 9));
+    let line = made.line;
+    let hash = made.hash;
+    Entry {
+        line,
+        code,
+        hash,
+        namelen: n,
+    }
+}
+
+// What a line says.
+pub fn entry_of(s: &[u8]) -> Entry
+    ensures { λ r. ⌜ r ≡ entryOf (now (s .entry)) ⌝ }
+{
+    if s.len() == 0 {
+        return no_entry(Line::Blank);
+    }
+    if octets::octet_is(s, 0, b'#') {
+        return no_entry(Line::Blank);
+    }
+    if !has_octet(s, 9) {
+        return no_entry(Line::NoPassword);
+    }
+    let n = place(s, 9);
+    if n == 0 {
+        return no_entry(Line::NoName);
+    }
+    if 256 < n {
+        return no_entry(Line::LongName);
+    }
+    entry_with(s, n)
+}
+
+fn is_account(line: Line) -> bool {
+    match line {
+        Line::Blank => false,
+        Line::Account => true,
+        Line::NoPassword => false,
+        Line::NoName => false,
+        Line::LongName => false,
+        Line::BadCode => false,
+        Line::BadHash => false,
+        Line::NotUtf8 => false,
+        Line::LongPassword => false,
+        Line::Full => false,
+    }
+}
+
+fn is_blank(line: Line) -> bool {
+    match line {
+        Line::Blank => true,
+        Line::Account => false,
+        Line::NoPassword => false,
+        Line::NoName => false,
+        Line::LongName => false,
+        Line::BadCode => false,
+        Line::BadHash => false,
+        Line::NotUtf8 => false,
+        Line::LongPassword => false,
+        Line::Full => false,
+    }
+}
+
+fn is_fault(line: Line) -> bool {
+    if is_blank(line) {
+        return false;
+    }
+    !is_account(line)
+}
+
+// ---- a table
+
+// A line's record at the end of a table of n octets.
+fn take_line(table: &mut [u8], n: usize, s: &[u8]) -> Taken
+    requires { ⌜ Formed (now table) n ⌝ }
+    ensures { λ r. ⌜ Formed (now (table .exit)) (r .len) ⌝ }
+{
+    let e = entry_of(s);
+    let line = e.line;
+    if !is_account(line) {
+        return Taken { line, len: n };
+    }
+    let hash = e.hash;
+    let next = append_account(table, n, e.code, hash, octets::part(s, 0, e.namelen));
+    if next == n {
+        return Taken {
+            line: Line::Full,
+            len: next,
+        };
+    }
+    Taken { line, len: next }
+}
+
+// The table that a text's lines make, at the front of a buffer of at most 65,536 octets.
+pub fn make(table: &mut [u8], text: &[u8]) -> Made
+    ensures { λ r. ⌜ wellFormed (take (r .len) (now (table .exit))) ≡ true ⌝ }
+{
+    if 65536 < table.len() {
+        return Made {
+            ended: Line::Full,
+            lines: 0,
+            len: 0,
+        };
+    }
+    let mut lines = 0;
+    let mut len = 0;
+    let mut at = 0;
+    while at < text.len() {
+        let s = field_before(octets::rest(text, at), 10);
+        let taken = take_line(table, len, trim(s));
+        let line = taken.line;
+        lines += 1;
+        len = taken.len;
+        if is_fault(line) {
+            return Made {
+                ended: line,
+                lines,
+                len,
+            };
+        }
+        at = at + s.len() + 1;
+    }
+    Made {
+        ended: Line::Blank,
+        lines,
+        len,
+    }
+}
