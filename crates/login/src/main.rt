@@ -1,0 +1,131 @@
+// Plays a login between both ends in memory, and shows each packet.
+use talk::Login;
+
+mod arguments;
+mod packets;
+mod talk;
+mod words;
+
+// RFC 2759, section 9.2.
+const CHALLENGE: [u8; 16] = [
+    0x5B,
+    0x5D,
+    0x7C,
+    0x7D,
+    0x7B,
+    0x3F,
+    0x2F,
+    0x3E,
+    0x3C,
+    0x2C,
+    0x60,
+    0x21,
+    0x32,
+    0x26,
+    0x26,
+    0x28,
+];
+
+const PEER_CHALLENGE: [u8; 16] = [
+    0x21,
+    0x40,
+    0x23,
+    0x24,
+    0x25,
+    0x5E,
+    0x26,
+    0x2A,
+    0x28,
+    0x29,
+    0x5F,
+    0x2B,
+    0x3A,
+    0x33,
+    0x7C,
+    0x7E,
+];
+
+fn example() {
+    console::say(
+        b"The example of RFC 2759, section 9.2: name \"User\", password \"clientPass\".\n",
+    );
+    console::say(
+        b"It publishes the NT-Response 82309ECD8D708B5EA08FAA3981CD83544233114A3D85D6DF\n",
+    );
+    console::say(b"and the authenticator string S=407A5589115FD0D6209F510FE9C04566932CDA56.\n");
+    console::say(b"`login help` says how to play other logins.\n\n");
+    let made = password::hash(b"clientPass");
+    let hash = made.hash;
+    let mut table = [0u8; 278];
+    let n = roster::append_account(&mut table, 0, 0, hash, b"User");
+    talk::play(
+        octets::part(&table, 0, n),
+        b"User",
+        Login {
+            hash,
+            challenge: CHALLENGE,
+            random: PEER_CHALLENGE,
+            retries: 0,
+        },
+    );
+}
+
+fn help() {
+    console::say(b"login\n    Plays the example of RFC 2759.\n\n");
+    console::say(b"login TABLE NAME PASSWORD [RETRIES]\n");
+    console::say(b"login TABLE NAME PASSWORD CHALLENGE PEER-CHALLENGE [RETRIES]\n");
+    console::say(
+        b"    Plays a login of NAME with PASSWORD, between a peer and a server in memory, and\n",
+    );
+    console::say(b"    shows each packet. Nothing is sent.\n\n");
+    console::say(
+        b"    TABLE           the file of the server's account table; `table` makes one\n",
+    );
+    console::say(
+        b"    NAME            1 to 256 octets; the user is what follows a backslash, if any\n",
+    );
+    console::say(
+        b"    PASSWORD        UTF-8, up to 256 UTF-16 units; on a shared machine others can\n",
+    );
+    console::say(b"                    read it in the list of processes\n");
+    console::say(b"    CHALLENGE       the server's, 32 hex digits; else the published one\n");
+    console::say(b"    PEER-CHALLENGE  the peer's, 32 hex digits; else the published one\n");
+    console::say(b"    RETRIES         how often the server allows a retry, 0 to 10; else 0\n\n");
+    console::say(b"    At a retry the peer gives the same name and password again. Each further\n");
+    console::say(
+        b"    challenge is the one before with its last octet counted up. Challenges that can\n",
+    );
+    console::say(b"    be foreseen are for show only: in use each one has to be random.\n");
+}
+
+// One argument: the word help.
+fn one_word() {
+    let mut word = [0u8; 8];
+    let n = os::arg(1, &mut word);
+    if octets::equal(octets::part(&word, 0, n), b"help") {
+        help();
+        return;
+    }
+    arguments::complain(b"NAME and PASSWORD are missing");
+}
+
+fn main() {
+    let count = os::arg_count();
+    if count < 2 {
+        example();
+        return;
+    }
+    if count == 2 {
+        one_word();
+        return;
+    }
+    if count == 3 {
+        arguments::complain(b"PASSWORD is missing");
+        return;
+    }
+    if 7 < count {
+        arguments::complain(b"there are too many arguments");
+        return;
+    }
+    arguments::play(count);
+}

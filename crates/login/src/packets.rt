@@ -1,0 +1,142 @@
+// A packet on the screen: its direction, its name, its fields in words, its octets.
+use super::words;
+use packet::End;
+use packet::Kind;
+use packet::Packet;
+use packet::Place;
+use packet::Reading;
+
+fn name(kind: Kind) {
+    match kind {
+        Kind::Challenge => console::say(b"Challenge"),
+        Kind::Response => console::say(b"Response"),
+        Kind::SuccessRequest => console::say(b"Success Request"),
+        Kind::FailureRequest => console::say(b"Failure Request"),
+        Kind::RetryRequest => console::say(b"Failure Request"),
+        Kind::SuccessResponse => console::say(b"Success Response"),
+        Kind::FailureResponse => console::say(b"Failure Response"),
+        Kind::EapSuccess => console::say(b"EAP Success"),
+        Kind::EapFailure => console::say(b"EAP Failure"),
+    }
+}
+
+fn at(p: &[u8], place: Place) -> &[u8] {
+    octets::part(p, place.start, place.len)
+}
+
+fn chap_id(k: Packet) {
+    console::say(b", MS-CHAPv2-ID ");
+    console::number(k.chapid.0 as u64);
+}
+
+fn challenge(k: Packet, p: &[u8]) {
+    let value = k.challenge;
+    let name = k.tail;
+    console::say(b"    challenge       ");
+    console::hex(at(p, value));
+    console::say(b"\n    name            ");
+    console::quoted(at(p, name));
+    console::say(b"\n");
+}
+
+fn response(k: Packet, p: &[u8]) {
+    let value = k.challenge;
+    let response = k.response;
+    let name = k.tail;
+    console::say(b"    peer challenge  ");
+    console::hex(at(p, value));
+    console::say(b"\n    NT-Response     ");
+    console::hex(at(p, response));
+    console::say(b"\n    name            ");
+    console::quoted(at(p, name));
+    console::say(b"\n");
+}
+
+fn success(k: Packet, p: &[u8]) {
+    let digits = k.response;
+    let text = k.tail;
+    console::say(b"    authenticator   S=");
+    console::say(at(p, digits));
+    console::say(b"\n    text            M=");
+    console::quoted(at(p, text));
+    console::say(b"\n");
+}
+
+fn failure(retry: &[u8], k: Packet, p: &[u8]) {
+    let digits = k.challenge;
+    let text = k.tail;
+    console::say(b"    error           E=");
+    console::number(k.code);
+    words::error(k.code);
+    console::say(b"\n    retry           ");
+    console::say(retry);
+    console::say(b"\n    new challenge   C=");
+    console::say(at(p, digits));
+    console::say(b"\n    text            M=");
+    console::quoted(at(p, text));
+    console::say(b"\n");
+}
+
+fn fields(k: Packet, p: &[u8]) {
+    let kind = k.kind;
+    match kind {
+        Kind::Challenge => challenge(k, p),
+        Kind::Response => response(k, p),
+        Kind::SuccessRequest => success(k, p),
+        Kind::FailureRequest => failure(b"R=0, not allowed", k, p),
+        Kind::RetryRequest => failure(b"R=1, allowed", k, p),
+        Kind::SuccessResponse => console::say(b""),
+        Kind::FailureResponse => console::say(b""),
+        Kind::EapSuccess => console::say(b""),
+        Kind::EapFailure => console::say(b""),
+    }
+}
+
+fn has_chap_id(kind: Kind) -> bool {
+    match kind {
+        Kind::Challenge => true,
+        Kind::Response => true,
+        Kind::SuccessRequest => true,
+        Kind::FailureRequest => true,
+        Kind::RetryRequest => true,
+        Kind::SuccessResponse => false,
+        Kind::FailureResponse => false,
+        Kind::EapSuccess => false,
+        Kind::EapFailure => false,
+    }
+}
+
+fn whole(k: Packet, p: &[u8]) {
+    let kind = k.kind;
+    name(kind);
+    console::say(b", Identifier ");
+    console::number(k.id.0 as u64);
+    if has_chap_id(kind) {
+        chap_id(k);
+    }
+    console::say(b", ");
+    console::number(k.length as u64);
+    console::say(b" octets\n");
+    fields(k, p);
+    console::say(b"    octets          ");
+    console::lines(p, b"                    ");
+    console::say(b"\n\n");
+}
+
+fn read_for(end: End, p: &[u8]) {
+    let x = packet::read(end, p);
+    match x {
+        Reading::Refused(_) => console::say(b"no packet\n\n"),
+        Reading::Read(k) => whole(k, p),
+    }
+}
+
+pub fn to_peer(p: &[u8]) {
+    console::say(b"\n  server -> peer    ");
+    read_for(End::Peer, p);
+}
+
+pub fn to_server(p: &[u8]) {
+    console::say(b"\n  peer -> server    ");
+    read_for(End::Server, p);
+}

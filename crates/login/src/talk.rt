@@ -1,0 +1,222 @@
+// A login between both ends: what each end answers, and each packet.
+ghost use mathlib.Core.Path.{_≡_};
+ghost use Rattle.login.specs.Counted.{countedUp};
+use super::packets;
+use super::words;
+use answer::Answer;
+use answer::Identifier;
+use peer::Peer;
+use peer::PeerStep;
+use server::Server;
+use server::ServerStep;
+
+// The password's hash, the first challenge of either end, and how often the server lets the peer try again.
+pub struct Login {
+    pub hash: [u8; 16],
+    pub challenge: [u8; 16],
+    pub random: [u8; 16],
+    pub retries: u64,
+}
+
+// Both ends, and how many octets the packet has that is on its way to the peer: 0 once the talk is over.
+struct Ends {
+    peer: Peer,
+    server: Server,
+    n: usize,
+}
+
+// A challenge with its last octet counted up. For show: challenges must be random.
+fn counted_up(challenge: [u8; 16], turn: u8) -> [u8; 16]
+    ensures { λ r. ⌜ r ≡ countedUp challenge turn ⌝ }
+{
+    let mut out = challenge;
+    out[15] = std::num::wrapping_add_u8(challenge[15], turn);
+    out
+}
+
+fn needs_credentials(a: Answer) -> bool {
+    match a {
+        Answer::Written => false,
+        Answer::NeedsCredentials => true,
+        Answer::Authenticated => false,
+        Answer::Ended => false,
+        Answer::Refused(_) => false,
+    }
+}
+
+// ---- the peer
+
+fn tell_peer(done: PeerStep, reply: &[u8]) {
+    let answer = done.answer;
+    let peer = done.peer;
+    let stage = peer.stage;
+    let n = done.n;
+    words::answer(answer);
+    console::say(b", stage ");
+    words::peer_stage(stage);
+    console::say(b"\n");
+    if 0 < n {
+        packets::to_server(octets::part(reply, 0, n));
+    }
+}
+
+fn peer_step(peer: Peer, packet: &[u8], random: [u8; 16], reply: &mut [u8]) -> PeerStep {
+    let done = peer.step(packet, random, reply);
+    console::say(b"peer: ");
+    tell_peer(done, reply);
+    done
+}
+
+fn peer_supply(peer: Peer, name: &[u8], login: Login, turn: u8, reply: &mut [u8]) -> PeerStep {
+    let hash = login.hash;
+    let random = login.random;
+    let done = peer.supply(name, hash, counted_up(random, turn), reply);
+    console::say(b"peer, given the same name and password: ");
+    tell_peer(done, reply);
+    done
+}
+
+fn peer_turn(
+    peer: Peer,
+    packet: &[u8],
+    name: &[u8],
+    login: Login,
+    turn: u8,
+    reply: &mut [u8],
+) -> PeerStep {
+    let random = login.random;
+    let done = peer_step(peer, packet, counted_up(random, turn), reply);
+    let answer = done.answer;
+    if needs_credentials(answer) {
+        return peer_supply(done.peer, name, login, turn, reply);
+    }
+    done
+}
+
+// ---- the server
+
+fn tell_server(done: ServerStep, reply: &[u8]) {
+    let answer = done.answer;
+    let server = done.server;
+    let stage = server.stage;
+    let n = done.n;
+    words::answer(answer);
+    console::say(b", stage ");
+    words::server_stage(stage);
+    console::say(b"\n");
+    if 0 < n {
+        packets::to_peer(octets::part(reply, 0, n));
+    }
+}
+
+fn server_turn(
+    server: Server,
+    packet: &[u8],
+    table: &[u8],
+    fresh: [u8; 16],
+    reply: &mut [u8],
+) -> ServerStep {
+    let done = server.packet(packet, table, fresh, reply);
+    console::say(b"server: ");
+    tell_server(done, reply);
+    done
+}
+
+// ---- both
+
+fn begin(name: &[u8], login: Login, packet: &mut [u8]) -> Ends {
+    let hash = login.hash;
+    let challenge = login.challenge;
+    let made = Peer::new(name, hash);
+    let peer = made.peer;
+    let server = Server::new();
+    let done = server.start(Identifier(1), challenge, b"server", login.retries, packet);
+    console::say(b"server starts: ");
+    tell_server(done, packet);
+    let server = done.server;
+    Ends {
+        peer,
+        server,
+        n: done.n,
+    }
+}
+
+// The peer takes the packet, and the server takes the reply.
+fn round(ends: Ends, turn: u8, table: &[u8], name: &[u8], login: Login, packet: &mut [u8]) -> Ends {
+    let mut reply = [0u8; 400];
+    let took = peer_turn(
+        ends.peer,
+        octets::part(packet, 0, ends.n),
+        name,
+        login,
+        turn,
+        &mut reply,
+    );
+    let peer = took.peer;
+    let n = took.n;
+    if n == 0 {
+        let server = ends.server;
+        return Ends { peer, server, n: 0 };
+    }
+    let challenge = login.challenge;
+    let done = server_turn(
+        ends.server,
+        octets::part(&reply, 0, n),
+        table,
+        counted_up(challenge, std::num::wrapping_add_u8(turn, 1)),
+        packet,
+    );
+    let server = done.server;
+    Ends {
+        peer,
+        server,
+        n: done.n,
+    }
+}
+
+fn is_in(ends: Ends) -> bool {
+    let peer = ends.peer;
+    let stage = peer.stage;
+    match stage {
+        peer::Stage::Begin => false,
+        peer::Stage::ChallengeResponseSent => false,
+        peer::Stage::SuccessResponseSent => false,
+        peer::Stage::FailureResponseSent => false,
+        peer::Stage::Waiting => false,
+        peer::Stage::Success => true,
+        peer::Stage::Failed => false,
+    }
+}
+
+fn over(ends: Ends) {
+    let peer = ends.peer;
+    let server = ends.server;
+    let peer_stage = peer.stage;
+    let server_stage = server.stage;
+    if is_in(ends) {
+        console::say(b"\nLogged in: ");
+    } else {
+        console::say(b"\nNot logged in: ");
+    }
+    console::say(b"peer ");
+    words::peer_stage(peer_stage);
+    console::say(b", server ");
+    words::server_stage(server_stage);
+    console::say(b".\n");
+}
+
+// Twenty turns are more than any login takes.
+pub fn play(table: &[u8], name: &[u8], login: Login) {
+    let mut packet = [0u8; 1020];
+    let mut ends = begin(name, login, &mut packet);
+    let mut turn: u8 = 0;
+    while turn < 20 {
+        if ends.n == 0 {
+            over(ends);
+            return;
+        }
+        ends = round(ends, turn, table, name, login, &mut packet);
+        turn += 1;
+    }
+    over(ends);
+}
