@@ -48,6 +48,19 @@ pub fn number(n: u64) {
     io::print_decimal(STDOUT_FILENO, n);
 }
 
+// The meaning of an account's code, or of a Failure Request's: RFC 2759, section 6.
+pub fn code(code: u64) {
+    match code {
+        0 => say(b"may log in"),
+        646 => say(b"restricted logon hours"),
+        647 => say(b"account disabled"),
+        648 => say(b"password expired"),
+        649 => say(b"no dial-in permission"),
+        691 => say(b"authentication failure"),
+        _ => say(b"another error"),
+    }
+}
+
 // Octets in hex digits, with nothing between them.
 pub fn hex(s: &[u8]) {
     let mut at = 0;

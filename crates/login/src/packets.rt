@@ -1,5 +1,4 @@
 // A packet on the screen: its direction, its name, its fields in words, its octets.
-use super::words;
 use packet::End;
 use packet::Kind;
 use packet::Packet;
@@ -67,7 +66,8 @@ fn failure(retry: &[u8], k: Packet, p: &[u8]) {
     let text = k.tail;
     console::say(b"    error           E=");
     console::number(k.code);
-    words::error(k.code);
+    console::say(b", ");
+    console::code(k.code);
     console::say(b"\n    retry           ");
     console::say(retry);
     console::say(b"\n    new challenge   C=");

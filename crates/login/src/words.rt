@@ -1,4 +1,4 @@
-// Answers, stages and codes in words.
+// Answers and stages in words.
 use answer::Answer;
 
 fn meaning(a: Answer) {
@@ -37,17 +37,5 @@ pub fn server_stage(stage: server::Stage) {
         server::Stage::FailureRequestSent => console::say(b"FAILURE_REQUEST_SENT"),
         server::Stage::Success => console::say(b"SUCCESS"),
         server::Stage::Failed => console::say(b"FAILED"),
-    }
-}
-
-// RFC 2759, section 6.
-pub fn error(code: u64) {
-    match code {
-        646 => console::say(b", restricted logon hours"),
-        647 => console::say(b", account disabled"),
-        648 => console::say(b", password expired"),
-        649 => console::say(b", no dial-in permission"),
-        691 => console::say(b", authentication failure"),
-        _ => console::say(b""),
     }
 }

@@ -368,7 +368,8 @@ fn is_blank(line: Line) -> bool {
     }
 }
 
-fn is_fault(line: Line) -> bool {
+// Whether a line is wrong.
+pub fn is_fault(line: Line) -> bool {
     if is_blank(line) {
         return false;
     }
