@@ -35,7 +35,9 @@ fn save(name: &mut [u8], path: &[u8], table: &[u8]) -> bool {
     let done = io::write_all(fd, table);
     libc::close(fd);
     if done {
-        return os::rename(name, path) == 0;
+        if os::rename(name, path) == 0 {
+            return true;
+        }
     }
     os::unlink(name);
     false
