@@ -1,9 +1,7 @@
 -- Examples, computed: RFC 3629, section 7; and what section 4 shuts out.
-use Prim.Native.Nat.{ℕ}
 use mathlib.Core.Path.{_≡_, refl}
-use mathlib.Core.List.{List, [], _∷_}
+use mathlib.Core.List.{[], _∷_}
 use mathlib.Core.Bool.{true, false}
-use lib.ListN.{getD}
 use Rattle.octets.specs.Choice.{pick}
 use Rattle.password.specs.Utf8.{sizeBy, within, lowest, highest, isTail, sizeWith, sizeOf, formedAfter, isUtf8}
 use Rattle.password.specs.Utf16.{pointOfTwo, pointOfThree, pointOfFour, pointWith, pointOf, firstUnit, secondUnit, unitsOf, strideOf, unitsAfter, utf16}

@@ -6,16 +6,17 @@ use mathlib.Core.Bool.{Bool, false, not}
 use native.Mathlib.Nat.{min-le-left, min-eq-right, sub-zero}
 use native.Mathlib.Omega.{arith}
 use lib.ListN.{length, take, replicate}
-use lib.Dec.{ltb}
 use borrow.Author.Tests.{lt-ltb, le-ltb}
-use Rattle.octets.proofs.Exits.{pick-true, pick-false, gave-not, below}
+use Rattle.octets.proofs.Exits.{pick-true, pick-false, gave-not, below, arms}
 use Rattle.answer.specs.Outcome.{Told, gives}
 use Rattle.mschap.specs.Responses.{passwordHash}
+use Rattle.mschap.proofs.Responses.{length-password-hash}
 use Rattle.mschap.specs.Answers.{passwordHashTold, toldPasswordHash, limited}
 use Rattle.mschap.specs.declared.PasswordHash.{PasswordHash}
 use Rattle.password.specs.Utf8.{isUtf8}
 use Rattle.password.specs.Utf16.{utf16, Converted}
 use Rattle.password.specs.Hashed.{hashed, hashedOf}
+use Rattle.password.specs.declared.Hashed.{Hashed}
 use Rattle.password.specs.declared.Spelling.the-variants.{Good, TooLong}
 
 module _ (text units : List ℕ) (b : Bool) (n : ℕ) (e : b ≡ isUtf8 text) (t : not b ≡ false) (c : Converted (utf16 text) n units) where
@@ -40,3 +41,9 @@ module _ (text units : List ℕ) (b : Bool) (n : ℕ) (e : b ≡ isUtf8 text) (t
       let w : passwordHashTold (utf16 text) ≡ gives (passwordHash (utf16 text)) = pick-false _ _ _ (le-ltb _ _ f) in
       let k : h .octets ≡ passwordHash (utf16 text) = ap (λ (x : Told (List ℕ)). x .value) (d ∙ ap passwordHashTold u ∙ w) in
       ap (hashed Good) k ∙ sym (pick-false _ _ _ (gave-not _ _ _ e t) ∙ pick-false _ _ _ (le-ltb _ _ f))
+
+pub length-hashed : (text : List ℕ) → length (hashedOf text .hash) ≡ 16
+unfolding hashedOf
+length-hashed text =
+    let P : Hashed → Type 0 = λ x. length (x .hash) ≡ 16 in
+    arms P _ refl (arms P _ refl (length-password-hash (utf16 text)))

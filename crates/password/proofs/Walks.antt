@@ -1,17 +1,16 @@
 -- The walks over a text, turn by turn, and one answer for their needs: `search walks`.
-use Prim.Native.Nat.{ℕ, zero, suc, _+_, _-_, _<_, _≤_, min}
+use Prim.Native.Nat.{ℕ, zero, suc, _+_, _-_, _<_, _≤_}
 use mathlib.Core.Path.{_≡_, refl, sym, ap, _∙_}
 use mathlib.Core.List.{List, [], _∷_, _++_, append-assoc, append-nil}
-use mathlib.Core.Bool.{Bool, true, false}
+use mathlib.Core.Bool.{true, false}
 use native.Mathlib.Nat.{min-eq-left, min-eq-right}
 use native.Mathlib.Numerals.{add-one}
 use native.Mathlib.Omega.{arith}
-use lib.ListN.{length, getD, take, drop, set, length-set, length-append, length-drop, drop-of-length-le}
+use lib.ListN.{length, take, drop, set, length-set, length-append, length-drop, drop-of-length-le}
 use lib.Seq.{drop-drop, length-take-le, take-suc-set, take-set-le}
 use lib.Dec.{eqb}
 use borrow.Author.Needs.{needs}
 use borrow.Author.Tests.{eq-eqb, ne-eqb, eqb-false, lt-ltb, le-ltb}
-use Rattle.octets.specs.Choice.{pick}
 use Rattle.octets.proofs.Exits.{pick-true, pick-false, picked, below}
 use Rattle.password.specs.Utf8.{sizeOf, formedAfter, isUtf8}
 use Rattle.password.specs.Utf16.{unitsOf, pointOf, firstUnit, secondUnit, strideOf, unitsAfter, utf16, Converted}

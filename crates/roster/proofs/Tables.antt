@@ -1,25 +1,28 @@
 -- What is made is well formed.
-use Prim.Native.Nat.{ℕ, _+_, _*_, _/_, _%_, _≤_, _<_}
+use Prim.Native.Nat.{ℕ, suc, _+_, _*_, _/_, _%_, _≤_}
 use native.Mathlib.Nat.{div-add-mod'}
 use native.Mathlib.Omega.{arith}
-use mathlib.Core.Path.{_≡_, refl, sym, ap, _∙_}
-use mathlib.Core.List.{List, [], _∷_, _++_, append-nil, flatten}
-use mathlib.Core.Bool.{Bool, true, false, not}
-use lib.ListN.{length, take, drop, length-append, length-drop}
-use lib.Seq.{length-take-le, take-append-seam}
-use borrow.Author.Tests.{ltb-false, not-false, le-leb, lt-leb}
-use borrow.Author.Needs.{needs}
-use Rattle.octets.specs.Choice.{pick}
-use Rattle.octets.specs.Lists.{put, nextAt, Appended}
+use mathlib.Core.Path.{_≡_, refl, sym}
+use mathlib.Core.List.{List, [], _∷_, append-nil, flatten}
+use mathlib.Core.Bool.{true, not}
+use lib.ListN.{length, length-append}
+use borrow.Author.Tests.{ltb-false, not-false}
 use Rattle.octets.specs.Octets.{numberAt}
-use Rattle.octets.specs.declared.Order.the-variants.{Little}
-use Rattle.octets.proofs.Exits.{picked, below, pick-true, pick-false}
-use Rattle.octets.proofs.Lists.{put-fits}
+use Rattle.octets.proofs.Exits.{arms, picked}
+use Rattle.octets.proofs.Lists.{length-cells}
 use Rattle.accounts.specs.Accounts.{isCode, wellFormed}
-use Rattle.accounts.specs.Table.{All, none, more, IsRecord, IsAccount, IsGood, IsTable}
+use Rattle.accounts.specs.Table.{none, more, IsGood}
 use Rattle.accounts.proofs.Tables.{so-table}
 use Rattle.accounts.proofs.Joined.{joined-formed, empty-formed}
-use Rattle.roster.specs.Account.{accountRecord, recordFor, Formed}
+use Rattle.password.specs.Hashed.{hashedOf}
+use Rattle.password.specs.declared.Spelling.{Spelling}
+use Rattle.password.specs.declared.Spelling.the-variants.{Good, NotUtf8, TooLong}
+use Rattle.password.proofs.Hashes.{length-hashed}
+use Rattle.roster.specs.Account.{accountRecord, recordFor}
+use Rattle.roster.specs.Lines.{before, after, trimmed, hexSecret, spelt, secretOf, entryWith, entryOf}
+use Rattle.roster.specs.Made.{linesOf, addedTo, addedBy, recordIn, Taken, takenOf, Result, madeFrom, madeOf}
+use Rattle.roster.specs.declared.Secret.{Secret}
+use Rattle.roster.specs.declared.Entry.{Entry}
 use Rattle.roster.proofs.Laws.{length-account}
 
 -- ---- a record
@@ -50,31 +53,48 @@ record-formed code hash name e =
     picked (λ (q : List ℕ). wellFormed q ≡ true) _ (λ _. empty-formed)
     (λ h. account-formed code hash name e (ltb-false _ _ h) (not-false _ c)))
 
--- ---- a table with a record more
-next-formed : (d q l : List ℕ) (n r : ℕ) → Formed d n → wellFormed q ≡ true → Appended d n q r l → n + length q ≤ length d → Formed l r
-unfolding nextAt
-next-formed d q l n r f w a h =
-    let front : length (take n d) ≡ n = length-take-le n d (f .inside) in
-    let e : r ≡ n + length q = a .place ∙ pick-true _ _ _ (le-leb _ _ h) in
-    let p : l ≡ (take n d ++ q) ++ drop (n + length q) d = a .now ∙ put-fits d q n h in
-    let k : length (take n d ++ q) ≡ r = length-append (take n d) q ∙ omega arith in
-    let m : length l ≡ length d = ap length p ∙ length-append (take n d ++ q) (drop (n + length q) d) ∙ omega (arith, length-drop (n + length q) d) in
-    let t : take r l ≡ take n d ++ q = rw (p, ← k) (take-append-seam (take n d ++ q) (drop (n + length q) d)) in
-    record { room = omega arith; inside = omega arith; is = rw t (joined-formed (take n d) q (f .is) w (omega arith)) }
+-- ---- all lines
+added-formed : (room : ℕ) (t q : List ℕ) → room ≤ 65536 → wellFormed t ≡ true → wellFormed q ≡ true → wellFormed (addedTo room t q) ≡ true
+unfolding addedTo
+added-formed room t q h v w =
+    picked (λ (l : List ℕ). wellFormed l ≡ true) _ (λ _. v)
+    (λ e. let k : length t + length q ≤ room = ltb-false _ _ e in joined-formed t q v w (omega (arith, length-append t q)))
 
-same-formed : (d q l : List ℕ) (n r : ℕ) → Formed d n → Appended d n q r l → length d < n + length q → Formed l r
-unfolding nextAt put
-same-formed d q l n r f a h =
-    let e : r ≡ n = a .place ∙ pick-false _ _ _ (lt-leb _ _ h) in
-    let p : l ≡ d = a .now ∙ pick-false _ _ _ (lt-leb _ _ h) in
-    rw (e, p) f
+length-secret : (s : List ℕ) → length (secretOf s .hash) ≡ 16
+unfolding secretOf hexSecret
+length-secret s =
+    arms (λ (x : Secret). length (x .hash) ≡ 16) _
+    (arms (λ (x : Secret). length (x .hash) ≡ 16) _ refl (arms (λ (x : Secret). length (x .hash) ≡ 16) _ refl (length-cells 16 _)))
+    (spelt-size (hashedOf s .spelling) (hashedOf s .hash) (length-hashed s))
+  where
+    spelt-size : (k : Spelling) (hash : List ℕ) → length hash ≡ 16 → length (spelt k hash .hash) ≡ 16
+    spelt-size Good hash e = e
+    spelt-size NotUtf8 hash e = e
+    spelt-size TooLong hash e = e
 
-pub more-formed : (d l hash name : List ℕ) (n r code : ℕ) → Formed d n → length hash ≡ 16 → Appended d n (recordFor code hash name) r l → Formed l r
-more-formed d l hash name n r code f e a =
-    let q : List ℕ = recordFor code hash name in
-    below (length d) (n + length q) (λ h. same-formed d q l n r f a h) (λ h. next-formed d q l n r f (record-formed code hash name e) a h)
+length-entry : (s : List ℕ) → length (entryOf s .hash) ≡ 16
+unfolding entryOf entryWith
+length-entry s =
+    let P : Entry → Type 0 = λ x. length (x .hash) ≡ 16 in
+    arms P _ refl (arms P _ refl (arms P _ refl (arms P _ refl (arms P _ refl (arms P _ refl (length-secret (before 9 (after 9 s))))))))
 
-pub none-formed : (d : List ℕ) → length d ≤ 65536 → Formed d 0
-none-formed d h = record { room = h; inside = omega arith; is = empty-formed }
+taken-formed : (room : ℕ) (t s : List ℕ) → room ≤ 65536 → wellFormed t ≡ true → wellFormed (takenOf room t s .table) ≡ true
+unfolding takenOf addedBy recordIn
+taken-formed room t s h w =
+    let P : Taken → Type 0 = λ x. wellFormed (x .table) ≡ true in
+    let q : wellFormed (recordIn s) ≡ true = record-formed (entryOf s .code) (entryOf s .hash) _ (length-entry s) in
+    let a : wellFormed (addedTo room t (recordIn s)) ≡ true = added-formed room t (recordIn s) h w q in
+    arms P _ w (arms P _ a a)
 
-pub ruleset tables = (needs, empty-formed, more-formed, none-formed)
+from-formed : (room k : ℕ) (t : List ℕ) (ls : List (List ℕ)) → room ≤ 65536 → wellFormed t ≡ true → wellFormed (madeFrom room k t ls .taken .table) ≡ true
+unfolding madeFrom
+from-formed room k t [] h w = w
+from-formed room k t (l ∷ ls) h w =
+    let v : wellFormed (takenOf room t (trimmed l) .table) ≡ true = taken-formed room t (trimmed l) h w in
+    arms (λ (x : Result). wellFormed (x .taken .table) ≡ true) _ v (from-formed room (suc k) _ ls h v)
+
+-- whatever the text, the table that is made of it is well formed
+pub made-formed : (room : ℕ) (text : List ℕ) → wellFormed (madeOf room text .taken .table) ≡ true
+unfolding madeOf
+made-formed room text =
+    picked (λ (x : Result). wellFormed (x .taken .table) ≡ true) _ (λ _. empty-formed) (λ e. from-formed room 0 [] (linesOf text) (ltb-false _ _ e) empty-formed)

@@ -1,12 +1,12 @@
 -- 01, "Account table": the record of an account.
-use Prim.Native.Nat.{ℕ, _+_, _/_, _%_, _≤_}
+use Prim.Native.Nat.{ℕ, _+_, _/_, _%_}
 use mathlib.Core.Path.{_≡_}
 use mathlib.Core.List.{List, [], _∷_, _++_}
-use mathlib.Core.Bool.{true, not}
+use mathlib.Core.Bool.{not}
 use lib.ListN.{length, take}
 use lib.Dec.{ltb}
 use Rattle.octets.specs.Choice.{pick}
-use Rattle.accounts.specs.Accounts.{isCode, wellFormed}
+use Rattle.accounts.specs.Accounts.{isCode}
 
 -- "length (2 octets, little-endian, counting the whole record), kind (2 octets, little-endian) ..": kind 1, code
 abbrev pub accountHead : ℕ → ℕ → List ℕ
@@ -24,9 +24,3 @@ recordFor code hash name = pick (not (isCode code)) [] (pick (ltb 256 (length na
 pub record Holds (q octets : List ℕ) (n : ℕ) : Type 0 where
   pub count : n ≡ length q
   pub front : take n octets ≡ q
-
--- the first n octets of a buffer are a well-formed table
-pub record Formed (buffer : List ℕ) (n : ℕ) : Type 0 where
-  pub room : length buffer ≤ 65536
-  pub inside : n ≤ length buffer
-  pub is : wellFormed (take n buffer) ≡ true

@@ -1,2 +1,3 @@
 pub mod Account
 pub mod Lines
+pub mod Made

@@ -2,8 +2,8 @@
 -- a tab and the code. Empty lines and those that begin with `#` are passed over.
 use Prim.Native.Nat.{ℕ, suc, _+_, _-_}
 use mathlib.Core.List.{List, [], _∷_}
-use mathlib.Core.Bool.{Bool, true, false, not, _||_}
-use lib.ListN.{length, getD, take, drop, replicate}
+use mathlib.Core.Bool.{Bool, true, not}
+use lib.ListN.{length, take, drop, replicate}
 use lib.Dec.{ltb, eqb}
 use Rattle.octets.specs.Choice.{pick}
 use Rattle.octets.specs.Lists.{cells}

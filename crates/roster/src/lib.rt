@@ -1,13 +1,13 @@
 // Account tables made of lines of text: document 01, "Account table".
 ghost use mathlib.Core.Path.{_≡_};
-ghost use mathlib.Core.Bool.{true};
 ghost use Prim.Native.Nat.{_+_, _≤_};
 ghost use lib.ListN.{length, take, drop};
 ghost use Rattle.octets.specs.Lists.{cells, over, Appended};
 ghost use Rattle.octets.specs.Octets.{unhexAt};
-ghost use Rattle.accounts.specs.Accounts.{isCode, wellFormed};
-ghost use Rattle.roster.specs.Account.{accountHead, accountRecord, recordFor, Holds, Formed};
+ghost use Rattle.accounts.specs.Accounts.{isCode};
+ghost use Rattle.roster.specs.Account.{accountHead, accountRecord, recordFor, Holds};
 ghost use Rattle.roster.specs.Lines.{upto, before, after, has, trimmed, hexSecret, spelt, secretOf, codeIn, codeAfter, noEntry, entryWith, entryOf};
+ghost use Rattle.roster.specs.Made.{isAccount, isFault, takenOf, Makes, Told};
 use password::Spelling;
 
 // What a line is: blank, an account, or what is wrong with it. Full: its record no longer fits the table.
@@ -338,7 +338,9 @@ pub fn entry_of(s: &[u8]) -> Entry
     entry_with(s, n)
 }
 
-fn is_account(line: Line) -> bool {
+fn is_account(line: Line) -> bool
+    ensures { λ r. ⌜ r ≡ isAccount line ⌝ }
+{
     match line {
         Line::Blank => false,
         Line::Account => true,
@@ -353,35 +355,30 @@ fn is_account(line: Line) -> bool {
     }
 }
 
-fn is_blank(line: Line) -> bool {
-    match line {
-        Line::Blank => true,
-        Line::Account => false,
-        Line::NoPassword => false,
-        Line::NoName => false,
-        Line::LongName => false,
-        Line::BadCode => false,
-        Line::BadHash => false,
-        Line::NotUtf8 => false,
-        Line::LongPassword => false,
-        Line::Full => false,
-    }
-}
-
 // Whether a line is wrong.
-pub fn is_fault(line: Line) -> bool {
-    if is_blank(line) {
-        return false;
+pub fn is_fault(line: Line) -> bool
+    ensures { λ r. ⌜ r ≡ isFault line ⌝ }
+{
+    match line {
+        Line::Blank => false,
+        Line::Account => false,
+        Line::NoPassword => true,
+        Line::NoName => true,
+        Line::LongName => true,
+        Line::BadCode => true,
+        Line::BadHash => true,
+        Line::NotUtf8 => true,
+        Line::LongPassword => true,
+        Line::Full => true,
     }
-    !is_account(line)
 }
 
 // ---- a table
 
 // A line's record at the end of a table of n octets.
 fn take_line(table: &mut [u8], n: usize, s: &[u8]) -> Taken
-    requires { ⌜ Formed (now table) n ⌝ }
-    ensures { λ r. ⌜ Formed (now (table .exit)) (r .len) ⌝ }
+    requires { ⌜ n ≤ length (now table) ⌝ }
+    ensures { λ r. ⌜ Makes (takenOf (length (now (table .entry))) (take n (now (table .entry))) (now (s .entry))) (r .line) (r .len) (now (table .entry)) (now (table .exit)) ⌝ }
 {
     let e = entry_of(s);
     let line = e.line;
@@ -401,7 +398,7 @@ fn take_line(table: &mut [u8], n: usize, s: &[u8]) -> Taken
 
 // The table that a text's lines make, at the front of a buffer of at most 65,536 octets.
 pub fn make(table: &mut [u8], text: &[u8]) -> Made
-    ensures { λ r. ⌜ wellFormed (take (r .len) (now (table .exit))) ≡ true ⌝ }
+    ensures { λ r. ⌜ Told (now (text .entry)) (now (table .entry)) (now (table .exit)) (r .ended) (r .len) (r .lines) ⌝ }
 {
     if 65536 < table.len() {
         return Made {

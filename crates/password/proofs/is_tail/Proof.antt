@@ -1,6 +1,5 @@
 use Rattle.password.specs.Utf8.{isTail}
 use borrow.Author.Needs.{needs}
-use borrow.Author.Needs.{needs}
 use Rattle.password.proofs.is_tail.Statement.{statement}
 use Rattle.password.proofs.is_tail.Tie as tie
 

@@ -1,6 +1,5 @@
 use borrow.Author.Needs.{needs}
 use Rattle.roster.proofs.Laws.{laid}
-use borrow.Author.Needs.{needs}
 use Rattle.roster.proofs.lay.Statement.{statement}
 use Rattle.roster.proofs.lay.Tie as tie
 

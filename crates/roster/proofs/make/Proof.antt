@@ -1,8 +1,6 @@
-use Prim.Native.Nat.{_≤_, _-_}
-use mathlib.Core.Path.{_≡_}
+use Prim.Native.Nat.{_-_}
 use lib.ListN.{length}
-use Rattle.roster.specs.Account.{Formed}
-use Rattle.roster.proofs.Tables.{tables}
+use Rattle.roster.proofs.Makes.{Making, makes}
 use Rattle.roster.proofs.make.Statement.{statement}
 use Rattle.roster.proofs.make.Tie as tie
 
@@ -10,21 +8,21 @@ pub make-spec : {M : Type 1} → statement M
 make-spec =
     tie.close
     (tie.spec
-    (λ table₀ _ _ _ _ table lines len at. (Formed table len) × (lines ≤ at) × (length table ≡ length table₀))
+    (λ table₀ text _ _ _ table lines len at. Making text table₀ table lines len at)
     (λ _ text _ _ _ _ _ _ at. length text - at)
-    (λ c. search tables)
-    (λ c. search tables)
-    (λ c κs. search tables)
-    (λ c κs. search tables)
-    (λ c κs. search tables)
-    (λ c κs. search tables)
-    (λ c. search tables)
-    (λ c κs. search tables)
-    (λ c. search tables)
-    (λ c. search tables)
-    (λ c. search tables)
-    (λ c. search tables)
-    (λ c. search tables)
-    (λ c. search tables)
-    (λ c. search tables)
-    (λ c. search tables))
+    (λ c. search makes)
+    (λ c. search makes)
+    (λ c κs. search makes)
+    (λ c κs. search makes)
+    (λ c κs. search makes)
+    (λ c κs. search makes)
+    (λ c. search makes)
+    (λ c κs. search makes)
+    (λ c. search makes)
+    (λ c. search makes)
+    (λ c. search makes)
+    (λ c. search makes)
+    (λ c. search makes)
+    (λ c. search makes)
+    (λ c. search makes)
+    (λ c. search makes))

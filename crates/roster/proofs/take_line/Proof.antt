@@ -1,4 +1,4 @@
-use Rattle.roster.proofs.Tables.{tables}
+use Rattle.roster.proofs.Makes.{takes}
 use borrow.Author.Needs.{needs}
 use Rattle.roster.proofs.take_line.Statement.{statement}
 use Rattle.roster.proofs.take_line.Tie as tie
@@ -9,10 +9,10 @@ take-line-spec =
     (tie.spec
     (λ c κs. search needs)
     (λ c κs. search needs)
-    (λ c. search needs)
+    (λ c. search takes)
     (λ c κs. search needs)
     (λ c κs. search needs)
     (λ c. search needs)
-    (λ c. search tables)
+    (λ c. search takes)
     (λ c. search needs)
-    (λ c. search tables))
+    (λ c. search takes))
