@@ -53,6 +53,15 @@ fn show(item: &[u8], hashes: bool) -> usize
     0
 }
 
+fn count(n: usize) {
+    console::number(n as u64);
+    if n == 1 {
+        console::say(b" account, ");
+        return;
+    }
+    console::say(b" accounts, ");
+}
+
 // The accounts of a well-formed table.
 pub fn rows(table: &[u8], hashes: bool) {
     let mut n = 0;
@@ -63,8 +72,7 @@ pub fn rows(table: &[u8], hashes: bool) {
         n += show(octets::part(left, 0, size), hashes);
         at += size;
     }
-    console::number(n as u64);
-    console::say(b" accounts, ");
+    count(n);
     console::number(table.len() as u64);
     console::say(b" octets\n");
 }

@@ -8,8 +8,8 @@ pub rows-spec : {M : Type 1} → statement M
 rows-spec =
     tie.close
     (tie.spec
-    (λ _ _ _ _ _ _ n at. n ≤ at)
-    (λ table _ _ _ _ _ _ at. length table - at)
+    (λ _ _ _ _ _ n at. n ≤ at)
+    (λ table _ _ _ _ _ at. length table - at)
     (λ c. search needs)
     (λ c κs. search needs)
     (λ c κs. search needs)
@@ -18,8 +18,6 @@ rows-spec =
     (λ c. search needs)
     (λ c. search needs)
     (λ c. search needs)
-    (λ c. search needs)
-    (λ c κs. search needs)
     (λ c. search needs)
     (λ c κs. search needs)
     (λ c κs. search needs)
