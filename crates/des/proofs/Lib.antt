@@ -1,5 +1,5 @@
-pub mod Bits
 pub mod Rows
-pub mod Halves
 pub mod Numbers
+pub mod Words
+pub mod Halves
 pub mod Keys

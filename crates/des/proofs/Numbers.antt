@@ -10,7 +10,7 @@ use lib.ListN.{length, getD, take, drop, length-drop}
 use lib.Seq.{split-at, length-take-le, getD-take, getD-drop, ext-getD}
 use Rattle.octets.specs.Lists.{cells, part}
 use Rattle.octets.proofs.Lists.{length-cells, getD-cells, cells-same}
-use Rattle.des.specs.Bits.{bitOf, bitsOf, numberOn, groupAt}
+use Rattle.des.specs.Bits.{bitOf, bitsOf, bitsIn, numberOn, groupAt}
 
 pub length-bits : (w : ℕ) (s : List ℕ) → length (bitsOf w s) ≡ w * length s
 unfolding bitsOf
@@ -19,6 +19,14 @@ length-bits w s = length-cells (w * length s) (bitOf w s)
 pub getD-bits : (w : ℕ) (s : List ℕ) (i : ℕ) → i < w * length s → getD (bitsOf w s) i 0 ≡ bitOf w s i
 unfolding bitsOf
 getD-bits w s i h = getD-cells (w * length s) (bitOf w s) i h
+
+pub length-in : (n w : ℕ) → length (bitsIn n w) ≡ n
+unfolding bitsIn
+length-in n w = length-cells n _
+
+pub getD-in : (n w i : ℕ) → i < n → getD (bitsIn n w) i 0 ≡ w / 2 ^ (n - 1 - i) % 2
+unfolding bitsIn
+getD-in n w i h = getD-cells n _ i h
 
 -- ---- the number of bits in two parts
 pub number-append : (acc : ℕ) (a b : List ℕ) → numberOn acc (a ++ b) ≡ numberOn (numberOn acc a) b
@@ -63,25 +71,28 @@ number-bit w m j e h =
     in
     ap₂ (λ (y k : ℕ). y / 2 ^ k % 2) s (sym n) ∙ ap (λ (y : ℕ). y % 2) (high (2 * x + b % 2) (length z) (number-lt z)) ∙ omega arith
 
--- ---- the number of the bits of x
-abbrev bitIn : ℕ → ℕ → ℕ → ℕ
-bitIn w x j = x / 2 ^ (w - 1 - j) % 2
-
-pub bits-number : (w x : ℕ) → numberOn 0 (cells w (bitIn w x)) ≡ x % 2 ^ w
-unfolding numberOn cells
-bits-number zero x = sym (mod-one x)
-bits-number (suc w) x =
-    let same : cells w (bitIn (suc w) x) ≡ cells w (bitIn w (x / 2)) =
-    cells-same w (bitIn (suc w) x) (bitIn w (x / 2))
-    (λ j h. let k : suc w - 1 - j ≡ 1 + (w - 1 - j) = omega arith in ap (λ (n : ℕ). x / 2 ^ n % 2) k ∙ ap (λ (n : ℕ). n % 2) (sym (shr-shr x 1 (w - 1 - j))))
+-- ---- the bits of a word, the last one apart
+pub in-suc : (n w : ℕ) → bitsIn (suc n) w ≡ bitsIn n (w / 2) ++ (w % 2 ∷ [])
+unfolding bitsIn cells
+in-suc n w =
+    let same : cells n (λ i. w / 2 ^ (suc n - 1 - i) % 2) ≡ bitsIn n (w / 2) =
+    cells-same n (λ i. w / 2 ^ (suc n - 1 - i) % 2) (λ i. w / 2 / 2 ^ (n - 1 - i) % 2)
+    (λ i h. let k : suc n - 1 - i ≡ 1 + (n - 1 - i) = omega arith in ap (λ (j : ℕ). w / 2 ^ j % 2) k ∙ ap (λ (x : ℕ). x % 2) (sym (shr-shr w 1 (n - 1 - i))))
     in
-    let z : suc w - 1 - w ≡ 0 = omega arith in
-    let last : bitIn (suc w) x w % 2 ≡ x % 2 = ap (λ (n : ℕ). x / 2 ^ n % 2 % 2) z ∙ omega (arith, div-one x) in
-    let k : w + 1 ≡ suc w = omega arith in
-    number-append 0 (cells w (bitIn (suc w) x)) (bitIn (suc w) x w ∷ [])
-    ∙ ap₂ (λ (m n : ℕ). 2 * m + n) (ap (numberOn 0) same ∙ bits-number w (x / 2)) last
-    ∙ omega (arith, mod-pow-add x w 1)
-    ∙ ap (λ (n : ℕ). x % 2 ^ n) k
+    let z : suc n - 1 - n ≡ 0 = omega arith in
+    ap₂ (λ (l : List ℕ) (x : ℕ). l ++ (x ∷ [])) same (ap (λ (j : ℕ). w / 2 ^ j % 2) z ∙ ap (λ (x : ℕ). x % 2) (div-one w))
+
+-- the number that they make
+pub bits-number : (n w : ℕ) → numberOn 0 (bitsIn n w) ≡ w % 2 ^ n
+unfolding numberOn bitsIn cells
+bits-number zero w = sym (mod-one w)
+bits-number (suc n) w =
+    let k : n + 1 ≡ suc n = omega arith in
+    ap (numberOn 0) (in-suc n w)
+    ∙ number-append 0 (bitsIn n (w / 2)) (w % 2 ∷ [])
+    ∙ ap (λ (m : ℕ). 2 * m + w % 2 % 2) (bits-number n (w / 2))
+    ∙ omega (arith, mod-pow-add w n 1)
+    ∙ ap (λ (j : ℕ). w % 2 ^ j) k
 
 -- ---- cut into groups of w, and back
 module _ (w n : ℕ) (some : 0 < w) where
@@ -124,7 +135,7 @@ module _ (w n : ℕ) (some : 0 < w) where
       long : length (bitsOf w s) ≡ w * n
       long = length-bits w s ∙ ap (λ (k : ℕ). w * k) e
 
-      bit : (q j : ℕ) → q < n → j < w → getD (part (bitsOf w s) (w * q) w) j 0 ≡ bitIn w (getD s q 0) j
+      bit : (q j : ℕ) → q < n → j < w → getD (part (bitsOf w s) (w * q) w) j 0 ≡ getD s q 0 / 2 ^ (w - 1 - j) % 2
       bit q j l k =
           let d : (w * q + j) / w ≡ q = mul-add-div some q j ∙ omega (arith, div-eq-of-lt k) in
           let m : (w * q + j) % w ≡ j = mul-add-mod-self-left w q j ∙ mod-eq-of-lt k in
@@ -136,9 +147,9 @@ module _ (w n : ℕ) (some : 0 < w) where
 
       number : (q : ℕ) → q < n → groupAt w (bitsOf w s) q ≡ getD s q 0
       number q l =
-          let same : part (bitsOf w s) (w * q) w ≡ cells w (bitIn w (getD s q 0)) =
-          ext-getD 0 (part (bitsOf w s) (w * q) w) (cells w (bitIn w (getD s q 0)))
-          (part-long (bitsOf w s) q long l ∙ sym (length-cells w (bitIn w (getD s q 0))))
-          (λ j h. let k : j < w = rw (part-long (bitsOf w s) q long l) at h in bit q j l k ∙ sym (getD-cells w (bitIn w (getD s q 0)) j k))
+          let same : part (bitsOf w s) (w * q) w ≡ bitsIn w (getD s q 0) =
+          ext-getD 0 (part (bitsOf w s) (w * q) w) (bitsIn w (getD s q 0))
+          (part-long (bitsOf w s) q long l ∙ sym (length-in w (getD s q 0)))
+          (λ j h. let k : j < w = rw (part-long (bitsOf w s) q long l) at h in bit q j l k ∙ sym (getD-in w (getD s q 0) j k))
           in
           ap (numberOn 0) same ∙ bits-number w (getD s q 0) ∙ mod-eq-of-lt (small q l)

@@ -1,16 +1,16 @@
 -- Every row of the S-boxes is a permutation of 0 to 15: one test of the whole table, and what it says of each lookup.
-use Prim.Native.Nat.{ℕ, _+_, _*_, _/_, _%_, _<_}
+use Prim.Native.Nat.{ℕ, _+_, _*_, _/_, _%_, _<_, _≤_}
 use native.Mathlib.Omega.{arith}
 use mathlib.Core.Path.{_≡_, refl, sym, ap₂, _∙_, subst}
 use mathlib.Core.Bool.{Bool, true, _&&_}
-use lib.Dec.{eqb, ltb}
+use lib.Dec.{eqb, ltb, leb}
 use mathlib.Core.List.{List}
 use lib.ListN.{length, getD, drop, length-drop}
 use lib.Seq.{length-take-le}
-use borrow.Author.Tests.{eqb-true, ltb-true}
+use borrow.Author.Tests.{eqb-true, ltb-true, leb-true}
 use Rattle.octets.specs.Choice.{pick}
 use Rattle.octets.proofs.Tables.{below, first-of, second-of, at-each}
-use Rattle.des.specs.Tables.{sTable}
+use Rattle.des.specs.Tables.{sTable, shiftTable}
 use Rattle.des.specs.Rows.{count, rowOf, Permutation, LookedUp}
 
 -- row k / 16 holds k % 16 once, and the number at k is below 16
@@ -46,3 +46,15 @@ lookup-in s k e h = subst (λ (l : List ℕ). LookedUp k (getD l k 0)) (sym e) (
 pub within : (s : List ℕ) (k : ℕ) → s ≡ sTable → k < 512 → k < length s
 unfolding sTable
 within s k e h = rw e h
+
+-- the left shifts are small
+few : ℕ → Bool
+few n = leb (getD shiftTable n 0) 2
+
+all-few : below 16 few ≡ true
+unfolding below few shiftTable
+all-few = refl
+
+pub shift-few : (n r : ℕ) → n < 16 → r ≡ getD shiftTable n 0 → r ≤ 2
+unfolding few
+shift-few n r h e = rw e (leb-true _ _ (at-each 16 few all-few n h))

@@ -1,120 +1,147 @@
-// DES (FIPS 46-3), bit by bit. A bit is an octet, 0 or 1; the highest bit of the first octet comes first.
+// DES (FIPS 46-3). The bits stand in words: of the n bits of a word, bit 1 is the highest.
 ghost use mathlib.Core.Path.{_≡_};
-ghost use Prim.Native.Nat.{_*_, _+_, _^_, _≤_, _<_};
+ghost use mathlib.Core.Bool.{true};
+ghost use Prim.Native.Nat.{_*_, _^_, _≤_, _<_};
 ghost use mathlib.Core.List.{_++_};
 ghost use lib.ListN.{length, getD, take, drop};
 ghost use Rattle.octets.specs.Lists.{cells};
-ghost use Rattle.des.specs.Tables.{ipTable, fpTable, eTable, pc1Table, pc2Table, shiftTable, sTable};
-ghost use Rattle.des.specs.Bits.{bitAt, permuted, sumOf, xored, bitOf, bitsOf, numberOn, groupAt};
+ghost use Rattle.des.specs.Tables.{ipTable, fpTable, eTable, pTable, pc1Table, pc2Table, shiftTable, sTable};
+ghost use Rattle.des.specs.Bits.{bitsIn, Word, names, permuted, bitsOf, groupAt};
 ghost use Rattle.des.specs.Des.{boxOf, substituted, cipherFunction, shifted, roundOf, roundsOf, swapped, enciphered};
 ghost use Rattle.des.specs.Keys.{withParity, keyOctet, keyOctets};
 ghost use Rattle.des.specs.Rows.{LookedUp};
 
 mod tables;
 
-use tables::E;
-use tables::FP;
-use tables::IP;
-use tables::P;
-use tables::PC1;
-use tables::PC2;
 use tables::S;
 use tables::SHIFTS;
 
-// ---- bits
+// ---- words
 
-// Bit k, counted from 1; 0 where there is none.
-fn bit_at(bits: &[u8], k: u8) -> u8
-    ensures { λ r. ⌜ r ≡ bitAt (now (bits .entry)) k ⌝ }
+// Octets as one word.
+fn word_of(p: &[u8]) -> u64
+    requires { ⌜ length (now p) ≤ 8 ⌝ }
+    ensures { λ r. ⌜ Word (8 * length (now (p .entry))) (bitsOf 8 (now (p .entry))) r ⌝ }
 {
-    if k == 0 {
-        return 0;
-    }
-    octets::octet(bits, (k - 1) as usize)
-}
-
-// Fills dst with the bits that the table names.
-fn permute(dst: &mut [u8], table: &[u8], bits: &[u8])
-    requires { ⌜ length (now dst) ≡ length (now table) ⌝ }
-    ensures { λ r. ⌜ now (dst .exit) ≡ permuted (now (table .entry)) (now (bits .entry)) ⌝ }
-{
+    let mut acc: u64 = 0;
     let mut i = 0;
-    while i < table.len() {
-        let k = table[i];
-        let b = bit_at(bits, k);
-        dst[i] = b;
-        i += 1;
-    }
-}
-
-// The sum of two bits modulo 2.
-fn sum(x: u8, y: u8) -> u8
-    ensures { λ r. ⌜ r ≡ sumOf x y ⌝ }
-{
-    (x % 2 + y % 2) % 2
-}
-
-// Bit i of numbers of w bits.
-fn bit_of(w: usize, src: &[u8], i: usize) -> u8
-    requires { ⌜ (0 < w) × (w ≤ 8) ⌝ }
-    ensures { λ r. ⌜ r ≡ bitOf w (now (src .entry)) i ⌝ }
-{
-    let x = octets::octet(src, i / w);
-    (x >> (w - 1 - i % w)) % 2
-}
-
-// Fills dst with the bits of numbers of w bits.
-fn unpack(dst: &mut [u8], w: usize, src: &[u8])
-    requires { ⌜ (0 < w) × (w ≤ 8) × (length (now dst) ≡ w * length (now src)) ⌝ }
-    ensures { λ r. ⌜ now (dst .exit) ≡ bitsOf w (now (src .entry)) ⌝ }
-{
-    let n = dst.len();
-    let mut i = 0;
-    while i < n {
-        let b = bit_of(w, src, i);
-        dst[i] = b;
-        i += 1;
-    }
-}
-
-// The number that at most eight bits make.
-fn number(bits: &[u8]) -> usize
-    requires { ⌜ length (now bits) ≤ 8 ⌝ }
-    ensures { λ r. ⌜ (r ≡ numberOn 0 (now (bits .entry))) × (r < 2 ^ length (now (bits .entry))) ⌝ }
-{
-    let mut acc: usize = 0;
-    let mut i = 0;
-    while i < bits.len() {
-        let b = bits[i];
-        acc = 2 * acc + (b % 2) as usize;
+    while i < p.len() {
+        let x = octets::octet(p, i);
+        acc = acc * 256 + x as u64;
         i += 1;
     }
     acc
 }
 
-// Number n of the numbers of w bits.
-fn group_at(w: usize, bits: &[u8], n: usize) -> usize
-    requires { ⌜ (w ≤ 8) × (n < 8) × (w * n + w ≤ length (now bits)) ⌝ }
-    ensures { λ r. ⌜ (r ≡ groupAt w (now (bits .entry)) n) × (r < 2 ^ w) ⌝ }
-{
-    let at = w * n;
-    let end = at + w;
-    number(&bits[at..end])
-}
-
-// 64 bits as octets.
-fn pack(bits: &[u8]) -> [u8; 8]
-    requires { ⌜ length (now bits) ≡ 64 ⌝ }
-    ensures { λ r. ⌜ r ≡ cells 8 (groupAt 8 (now (bits .entry))) ⌝ }
+// The eight octets of a word.
+fn octets_of(w: u64) -> [u8; 8]
+    ensures { λ r. ⌜ r ≡ cells 8 (groupAt 8 (bitsIn 64 w)) ⌝ }
 {
     let mut out = [0u8; 8];
     let mut i = 0;
     while i < 8 {
-        let x = group_at(8, bits, i);
-        out[i] = x as u8;
+        out[i] = ((w >> (56 - 8 * i)) % 256) as u8;
         i += 1;
     }
     out
+}
+
+// Eight entries of a table, for a word of n bits.
+fn row(entries: [u8; 8], w: u64, n: u64) -> u8
+    requires { ⌜ (names n entries ≡ true) × (n ≤ 64) ⌝ }
+    ensures { λ r. ⌜ bitsIn 8 r ≡ permuted entries (bitsIn n w) ⌝ }
+{
+    let mut acc: u64 = 0;
+    let mut i = 0;
+    while i < 8 {
+        let k = entries[i] as u64;
+        acc = acc * 2 + (w >> (n - k)) % 2;
+        i += 1;
+    }
+    acc as u8
+}
+
+// ---- the permutations and selections, row by row
+
+// The initial permutation.
+fn initial(w: u64) -> u64
+    ensures { λ r. ⌜ Word 64 (permuted ipTable (bitsIn 64 w)) r ⌝ }
+{
+    let a = row([58, 50, 42, 34, 26, 18, 10, 2], w, 64);
+    let b = row([60, 52, 44, 36, 28, 20, 12, 4], w, 64);
+    let c = row([62, 54, 46, 38, 30, 22, 14, 6], w, 64);
+    let d = row([64, 56, 48, 40, 32, 24, 16, 8], w, 64);
+    let e = row([57, 49, 41, 33, 25, 17, 9, 1], w, 64);
+    let f = row([59, 51, 43, 35, 27, 19, 11, 3], w, 64);
+    let g = row([61, 53, 45, 37, 29, 21, 13, 5], w, 64);
+    let h = row([63, 55, 47, 39, 31, 23, 15, 7], w, 64);
+    word_of(&[a, b, c, d, e, f, g, h])
+}
+
+// The final permutation.
+fn last(w: u64) -> u64
+    ensures { λ r. ⌜ Word 64 (permuted fpTable (bitsIn 64 w)) r ⌝ }
+{
+    let a = row([40, 8, 48, 16, 56, 24, 64, 32], w, 64);
+    let b = row([39, 7, 47, 15, 55, 23, 63, 31], w, 64);
+    let c = row([38, 6, 46, 14, 54, 22, 62, 30], w, 64);
+    let d = row([37, 5, 45, 13, 53, 21, 61, 29], w, 64);
+    let e = row([36, 4, 44, 12, 52, 20, 60, 28], w, 64);
+    let f = row([35, 3, 43, 11, 51, 19, 59, 27], w, 64);
+    let g = row([34, 2, 42, 10, 50, 18, 58, 26], w, 64);
+    let h = row([33, 1, 41, 9, 49, 17, 57, 25], w, 64);
+    word_of(&[a, b, c, d, e, f, g, h])
+}
+
+// The bit selection E.
+fn expand(w: u64) -> u64
+    ensures { λ r. ⌜ Word 48 (permuted eTable (bitsIn 32 w)) r ⌝ }
+{
+    let a = row([32, 1, 2, 3, 4, 5, 4, 5], w, 32);
+    let b = row([6, 7, 8, 9, 8, 9, 10, 11], w, 32);
+    let c = row([12, 13, 12, 13, 14, 15, 16, 17], w, 32);
+    let d = row([16, 17, 18, 19, 20, 21, 20, 21], w, 32);
+    let e = row([22, 23, 24, 25, 24, 25, 26, 27], w, 32);
+    let f = row([28, 29, 28, 29, 30, 31, 32, 1], w, 32);
+    word_of(&[a, b, c, d, e, f])
+}
+
+// The permutation P.
+fn transpose(w: u64) -> u64
+    ensures { λ r. ⌜ Word 32 (permuted pTable (bitsIn 32 w)) r ⌝ }
+{
+    let a = row([16, 7, 20, 21, 29, 12, 28, 17], w, 32);
+    let b = row([1, 15, 23, 26, 5, 18, 31, 10], w, 32);
+    let c = row([2, 8, 24, 14, 32, 27, 3, 9], w, 32);
+    let d = row([19, 13, 30, 6, 22, 11, 4, 25], w, 32);
+    word_of(&[a, b, c, d])
+}
+
+// Permuted choice 1: the first C and D.
+fn choice_1(w: u64) -> u64
+    ensures { λ r. ⌜ Word 56 (permuted pc1Table (bitsIn 64 w)) r ⌝ }
+{
+    let a = row([57, 49, 41, 33, 25, 17, 9, 1], w, 64);
+    let b = row([58, 50, 42, 34, 26, 18, 10, 2], w, 64);
+    let c = row([59, 51, 43, 35, 27, 19, 11, 3], w, 64);
+    let d = row([60, 52, 44, 36, 63, 55, 47, 39], w, 64);
+    let e = row([31, 23, 15, 7, 62, 54, 46, 38], w, 64);
+    let f = row([30, 22, 14, 6, 61, 53, 45, 37], w, 64);
+    let g = row([29, 21, 13, 5, 28, 20, 12, 4], w, 64);
+    word_of(&[a, b, c, d, e, f, g])
+}
+
+// Permuted choice 2: the key of a round.
+fn choice_2(w: u64) -> u64
+    ensures { λ r. ⌜ Word 48 (permuted pc2Table (bitsIn 56 w)) r ⌝ }
+{
+    let a = row([14, 17, 11, 24, 1, 5, 3, 28], w, 56);
+    let b = row([15, 6, 21, 10, 23, 19, 12, 4], w, 56);
+    let c = row([26, 8, 16, 7, 27, 20, 13, 2], w, 56);
+    let d = row([41, 52, 31, 37, 47, 55, 30, 40], w, 56);
+    let e = row([51, 45, 33, 48, 44, 49, 39, 56], w, 56);
+    let f = row([34, 53, 46, 42, 50, 36, 29, 32], w, 56);
+    word_of(&[a, b, c, d, e, f])
 }
 
 // ---- the cipher function
@@ -128,102 +155,37 @@ fn looked_up(s: &[u8], place: usize) -> u8
 }
 
 // What box n gives for six bits of the 48.
-fn box_at(s: &[u8], bits: &[u8], n: usize) -> u8
-    requires { ⌜ (now s ≡ sTable) × (n < 8) × (length (now bits) ≡ 48) ⌝ }
-    ensures { λ r. ⌜ r ≡ boxOf (now (bits .entry)) n ⌝ }
+fn box_at(s: &[u8], w: u64, n: usize) -> u8
+    requires { ⌜ (now s ≡ sTable) × (n < 8) ⌝ }
+    ensures { λ r. ⌜ (r ≡ boxOf (bitsIn 48 w) n) × (r < 16) ⌝ }
 {
-    let x = group_at(6, bits, n);
+    let x = ((w >> (42 - 6 * n)) % 64) as usize;
     looked_up(s, 64 * n + 16 * (2 * (x / 32 % 2) + x % 2) + x / 2 % 16)
 }
 
-// The numbers of the eight boxes.
-fn boxes(s: &[u8], bits: &[u8]) -> [u8; 8]
-    requires { ⌜ (now s ≡ sTable) × (length (now bits) ≡ 48) ⌝ }
-    ensures { λ r. ⌜ r ≡ cells 8 (boxOf (now (bits .entry))) ⌝ }
+// The 32 bits of the eight boxes.
+fn substitute(s: &[u8], w: u64) -> u64
+    requires { ⌜ now s ≡ sTable ⌝ }
+    ensures { λ r. ⌜ bitsIn 32 r ≡ substituted (bitsIn 48 w) ⌝ }
 {
-    let mut out = [0u8; 8];
+    let mut acc: u64 = 0;
     let mut n = 0;
     while n < 8 {
-        let x = box_at(s, bits, n);
-        out[n] = x;
+        let x = box_at(s, w, n);
+        acc = acc * 16 + x as u64;
         n += 1;
     }
-    out
-}
-
-// Bit i of E(R) and the round key's bit, added. The table is E, lent as the S-boxes are.
-fn mixed_at(table: &[u8], right: &[u8], key: &[u8], i: usize) -> u8
-    requires { ⌜ (now table ≡ eTable) × (length (now key) ≡ 48) × (i < 48) ⌝ }
-    ensures { λ r. ⌜ r ≡ getD (xored (permuted eTable (now (right .entry))) (now (key .entry))) i 0 ⌝ }
-{
-    let k = table[i];
-    let b = bit_at(right, k);
-    sum(b, key[i])
-}
-
-// E(R) and the round key, added bit by bit.
-fn mixed(right: &[u8], key: &[u8]) -> [u8; 48]
-    requires { ⌜ length (now key) ≡ 48 ⌝ }
-    ensures { λ r. ⌜ r ≡ xored (permuted eTable (now (right .entry))) (now (key .entry)) ⌝ }
-{
-    let table = E;
-    let mut out = [0u8; 48];
-    let mut i = 0;
-    while i < 48 {
-        let b = mixed_at(&table, right, key, i);
-        out[i] = b;
-        i += 1;
-    }
-    out
-}
-
-// The 32 bits of the eight boxes.
-fn substitute(s: &[u8], bits: &[u8]) -> [u8; 32]
-    requires { ⌜ (now s ≡ sTable) × (length (now bits) ≡ 48) ⌝ }
-    ensures { λ r. ⌜ r ≡ substituted (now (bits .entry)) ⌝ }
-{
-    let numbers = boxes(s, bits);
-    let mut out = [0u8; 32];
-    unpack(&mut out, 4, &numbers);
-    out
+    acc
 }
 
 // f(R, K).
-fn cipher_function(s: &[u8], right: &[u8], key: &[u8]) -> [u8; 32]
-    requires { ⌜ (now s ≡ sTable) × (length (now key) ≡ 48) ⌝ }
-    ensures { λ r. ⌜ r ≡ cipherFunction (now (right .entry)) (now (key .entry)) ⌝ }
+fn cipher_function(s: &[u8], right: u64, key: u64) -> u64
+    requires { ⌜ now s ≡ sTable ⌝ }
+    ensures { λ r. ⌜ Word 32 (cipherFunction (bitsIn 32 right) (bitsIn 48 key)) r ⌝ }
 {
-    let e = mixed(right, key);
-    let bits = substitute(s, &e);
-    let mut f = [0u8; 32];
-    permute(&mut f, &P, &bits);
-    f
-}
-
-// Bit i of R and L + f.
-fn next_at(lr: &[u8], f: &[u8], i: usize) -> u8
-    requires { ⌜ (length (now lr) ≡ 64) × (length (now f) ≡ 32) × (i < 64) ⌝ }
-    ensures { λ r. ⌜ r ≡ getD (drop 32 (now (lr .entry)) ++ xored (take 32 (now (lr .entry))) (now (f .entry))) i 0 ⌝ }
-{
-    if i < 32 {
-        return lr[32 + i];
-    }
-    sum(lr[i - 32], f[i - 32])
-}
-
-// R and L + f.
-fn next(lr: &[u8], f: &[u8]) -> [u8; 64]
-    requires { ⌜ (length (now lr) ≡ 64) × (length (now f) ≡ 32) ⌝ }
-    ensures { λ r. ⌜ r ≡ drop 32 (now (lr .entry)) ++ xored (take 32 (now (lr .entry))) (now (f .entry)) ⌝ }
-{
-    let mut out = [0u8; 64];
-    let mut i = 0;
-    while i < 64 {
-        let b = next_at(lr, f, i);
-        out[i] = b;
-        i += 1;
-    }
-    out
+    let e = expand(right);
+    let bits = substitute(s, e ^ key);
+    transpose(bits)
 }
 
 // ---- the key schedule and the rounds
@@ -231,56 +193,53 @@ fn next(lr: &[u8], f: &[u8]) -> [u8; 64]
 // The left shifts of round n, counted from 0.
 fn shift_count(n: usize) -> u8
     requires { ⌜ n < 16 ⌝ }
-    ensures { λ r. ⌜ r ≡ getD shiftTable n 0 ⌝ }
+    ensures { λ r. ⌜ (r ≡ getD shiftTable n 0) × (r ≤ 2) ⌝ }
 {
     SHIFTS[n]
 }
 
+// 28 bits shifted left, around the end.
+fn rotate(w: u64, s: u64) -> u64
+    requires { ⌜ (w < 2 ^ 28) × (s ≤ 28) ⌝ }
+    ensures { λ r. ⌜ Word 28 (drop s (bitsIn 28 w) ++ take s (bitsIn 28 w)) r ⌝ }
+{
+    (w << s) % 268435456 + (w >> (28 - s))
+}
+
 // C and D shifted left as round n does it.
-fn shift(cd: &[u8], n: usize) -> [u8; 56]
-    requires { ⌜ (length (now cd) ≡ 56) × (n < 16) ⌝ }
-    ensures { λ r. ⌜ r ≡ shifted (getD shiftTable n 0) (now (cd .entry)) ⌝ }
+fn shift(cd: u64, n: usize) -> u64
+    requires { ⌜ (cd < 2 ^ 56) × (n < 16) ⌝ }
+    ensures { λ r. ⌜ Word 56 (shifted (getD shiftTable n 0) (bitsIn 56 cd)) r ⌝ }
 {
-    let s = shift_count(n) as usize;
-    let mut out = [0u8; 56];
-    let mut i = 0;
-    while i < 56 {
-        out[i] = cd[28 * (i / 28) + (i % 28 + s) % 28];
-        i += 1;
-    }
-    out
+    let s = shift_count(n) as u64;
+    let c = rotate(cd >> 28, s);
+    let d = rotate(cd % 268435456, s);
+    c * 268435456 + d
 }
 
-// Permuted choice 2: the key of a round.
-fn round_key(cd: &[u8]) -> [u8; 48]
-    ensures { λ r. ⌜ r ≡ permuted pc2Table (now (cd .entry)) ⌝ }
+// L and R become R and L + f(R, K).
+fn round(s: &[u8], lr: u64, key: u64) -> u64
+    requires { ⌜ now s ≡ sTable ⌝ }
+    ensures { λ r. ⌜ bitsIn 64 r ≡ roundOf (bitsIn 64 lr) (bitsIn 48 key) ⌝ }
 {
-    let mut k = [0u8; 48];
-    permute(&mut k, &PC2, cd);
-    k
-}
-
-// L and R become R and L + f(R, K), K being the key that C and D give.
-fn round(s: &[u8], lr: &[u8], cd: &[u8]) -> [u8; 64]
-    requires { ⌜ (now s ≡ sTable) × (length (now lr) ≡ 64) ⌝ }
-    ensures { λ r. ⌜ r ≡ roundOf (now (lr .entry)) (permuted pc2Table (now (cd .entry))) ⌝ }
-{
-    let key = round_key(cd);
-    let f = cipher_function(s, &lr[32..], &key);
-    next(lr, &f)
+    let right = lr % 4294967296;
+    let f = cipher_function(s, right, key);
+    right * 4294967296 + ((lr >> 32) ^ f)
 }
 
 // L and R after the sixteen rounds.
-fn rounds(first: [u8; 56], initial: [u8; 64]) -> [u8; 64]
-    ensures { λ r. ⌜ r ≡ roundsOf first initial 16 ⌝ }
+fn rounds(first: u64, initial: u64) -> u64
+    requires { ⌜ first < 2 ^ 56 ⌝ }
+    ensures { λ r. ⌜ bitsIn 64 r ≡ roundsOf (bitsIn 56 first) (bitsIn 64 initial) 16 ⌝ }
 {
     let s = S;
     let mut cd = first;
     let mut lr = initial;
     let mut n = 0;
     while n < 16 {
-        cd = shift(&cd, n);
-        lr = round(&s, &lr, &cd);
+        cd = shift(cd, n);
+        let key = choice_2(cd);
+        lr = round(&s, lr, key);
         n += 1;
     }
     lr
@@ -288,67 +247,26 @@ fn rounds(first: [u8; 56], initial: [u8; 64]) -> [u8; 64]
 
 // ---- a block
 
-// Permuted choice 1: the first C and D.
-fn first_halves(key: [u8; 8]) -> [u8; 56]
-    ensures { λ r. ⌜ r ≡ permuted pc1Table (bitsOf 8 key) ⌝ }
-{
-    let mut bits = [0u8; 64];
-    unpack(&mut bits, 8, &key);
-    let mut cd = [0u8; 56];
-    permute(&mut cd, &PC1, &bits);
-    cd
-}
-
-// The initial permutation: the first L and R.
-fn initial(block: [u8; 8]) -> [u8; 64]
-    ensures { λ r. ⌜ r ≡ permuted ipTable (bitsOf 8 block) ⌝ }
-{
-    let mut bits = [0u8; 64];
-    unpack(&mut bits, 8, &block);
-    let mut lr = [0u8; 64];
-    permute(&mut lr, &IP, &bits);
-    lr
-}
-
 // R and then L.
-fn swap(lr: &[u8]) -> [u8; 64]
-    requires { ⌜ length (now lr) ≡ 64 ⌝ }
-    ensures { λ r. ⌜ r ≡ swapped (now (lr .entry)) ⌝ }
+fn swap(lr: u64) -> u64
+    ensures { λ r. ⌜ bitsIn 64 r ≡ swapped (bitsIn 64 lr) ⌝ }
 {
-    let mut out = [0u8; 64];
-    let mut i = 0;
-    while i < 64 {
-        out[i] = lr[(i + 32) % 64];
-        i += 1;
-    }
-    out
-}
-
-// The final permutation, of R and then L, as octets.
-fn finish(lr: &[u8]) -> [u8; 8]
-    requires { ⌜ length (now lr) ≡ 64 ⌝ }
-    ensures { λ r. ⌜ r ≡ cells 8 (groupAt 8 (permuted fpTable (swapped (now (lr .entry))))) ⌝ }
-{
-    let preoutput = swap(lr);
-    let mut bits = [0u8; 64];
-    permute(&mut bits, &FP, &preoutput);
-    pack(&bits)
+    (lr % 4294967296) * 4294967296 + (lr >> 32)
 }
 
 // One block enciphered under a key.
 pub fn encipher(key: [u8; 8], block: [u8; 8]) -> [u8; 8]
     ensures { λ r. ⌜ r ≡ enciphered key block ⌝ }
 {
-    let cd = first_halves(key);
-    let lr = initial(block);
-    let last = rounds(cd, lr);
-    finish(&last)
+    let cd = choice_1(word_of(&key));
+    let lr = rounds(cd, initial(word_of(&block)));
+    octets_of(last(swap(lr)))
 }
 
 // ---- keys of seven octets
 
 // Seven bits, and the low bit that makes the number of ones odd.
-fn with_parity(n: usize) -> u8
+fn with_parity(n: u64) -> u8
     requires { ⌜ n < 128 ⌝ }
     ensures { λ r. ⌜ r ≡ withParity n ⌝ }
 {
@@ -357,24 +275,14 @@ fn with_parity(n: usize) -> u8
     high + (1 - ones % 2) as u8
 }
 
-// Octet i of the eight, from 56 bits.
-fn key_octet(bits: &[u8], i: usize) -> u8
-    requires { ⌜ (length (now bits) ≡ 56) × (i < 8) ⌝ }
-    ensures { λ r. ⌜ r ≡ keyOctet (now (bits .entry)) i ⌝ }
-{
-    let n = group_at(7, bits, i);
-    with_parity(n)
-}
-
-// The eight octets.
-fn with_parities(bits: &[u8]) -> [u8; 8]
-    requires { ⌜ length (now bits) ≡ 56 ⌝ }
-    ensures { λ r. ⌜ r ≡ cells 8 (keyOctet (now (bits .entry))) ⌝ }
+// Eight octets from 56 bits.
+fn with_parities(w: u64) -> [u8; 8]
+    ensures { λ r. ⌜ r ≡ cells 8 (keyOctet (bitsIn 56 w)) ⌝ }
 {
     let mut out = [0u8; 8];
     let mut i = 0;
     while i < 8 {
-        let x = key_octet(bits, i);
+        let x = with_parity((w >> (49 - 7 * i)) % 128);
         out[i] = x;
         i += 1;
     }
@@ -385,7 +293,6 @@ fn with_parities(bits: &[u8]) -> [u8; 8]
 pub fn key_octets(k: [u8; 7]) -> [u8; 8]
     ensures { λ r. ⌜ r ≡ keyOctets k ⌝ }
 {
-    let mut bits = [0u8; 56];
-    unpack(&mut bits, 8, &k);
-    with_parities(&bits)
+    let w = word_of(&k);
+    with_parities(w)
 }

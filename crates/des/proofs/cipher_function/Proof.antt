@@ -1,19 +1,13 @@
-use Rattle.des.specs.Tables.{pTable}
-use Rattle.des.specs.Des.{cipherFunction}
+use Rattle.des.proofs.Halves.{halves}
 use borrow.Author.Needs.{needs}
 use Rattle.des.proofs.cipher_function.Statement.{statement}
 use Rattle.des.proofs.cipher_function.Tie as tie
 
 pub cipher-function-spec : {M : Type 1} → statement M
-unfolding cipherFunction pTable
 cipher-function-spec =
     tie.close
     (tie.spec
     (λ c κs. search needs)
-    (λ c. search needs)
     (λ c κs. search needs)
-    (λ c. search needs)
-    (λ c. search needs)
-    (λ c. search needs)
     (λ c κs. search needs)
-    (λ c. cc))
+    (λ c. search halves))

@@ -1,16 +1,30 @@
-use Rattle.des.specs.Des.{enciphered}
+use Rattle.des.proofs.Words.{octets-in}
+use Rattle.des.proofs.Halves.{enciphered-is}
 use borrow.Author.Needs.{needs}
 use Rattle.des.proofs.encipher.Statement.{statement}
 use Rattle.des.proofs.encipher.Tie as tie
 
 pub encipher-spec : {M : Type 1} → statement M
-unfolding enciphered
 encipher-spec =
     tie.close
     (tie.spec
-    (λ c κs. search needs)
+    (λ c. search needs)
     (λ c κs. search needs)
     (λ c κs. search needs)
     (λ c. search needs)
     (λ c κs. search needs)
-    (λ c. cc))
+    (λ c κs. search needs)
+    (λ c κs. search needs)
+    (λ c κs. search needs)
+    (λ c κs. search needs)
+    (λ c κs. search needs)
+    (λ c.
+    enciphered-is _ _ _ _ _ _ _ _ _ _
+    (octets-in 8 _ _ (c .before .before .before .before .before .before .before .before .word-of .ensures) (search needs))
+    (c .before .before .before .before .before .before .before .choice-1 .ensures)
+    (octets-in 8 _ _ (c .before .before .before .before .before .word-of2 .ensures) (search needs))
+    (c .before .before .before .before .initial .ensures)
+    (c .before .before .before .rounds .ensures)
+    (c .before .before .swap .ensures)
+    (c .before .last .ensures)
+    (c .octets-of .ensures)))

@@ -1,4 +1,5 @@
 use Rattle.des.specs.Keys.{keyOctets}
+use Rattle.des.proofs.Words.{octets-in}
 use borrow.Author.Needs.{needs}
 use Rattle.des.proofs.key_octets.Statement.{statement}
 use Rattle.des.proofs.key_octets.Tie as tie
@@ -9,8 +10,6 @@ key-octets-spec =
     tie.close
     (tie.spec
     (λ c. search needs)
-    (λ c. search needs)
     (λ c κs. search needs)
-    (λ c. search needs)
     (λ c κs. search needs)
-    (λ c. cc))
+    (λ c. cc (octets-in 7 _ _ (c .before .word-of .ensures) (search needs))))

@@ -10,13 +10,11 @@ unfolding sTable
 rounds-spec =
     tie.close
     (tie.spec
-    (λ s cd₀ lr₀ _ cd lr n. (s ≡ sTable) × Rounded cd₀ lr₀ cd lr n)
-    (λ _ _ _ _ _ _ n. 16 - n)
-    (λ c. search halves)
+    (λ _ _ s cd₀ lr₀ _ cd lr n. (s ≡ sTable) × Rounded cd₀ lr₀ cd lr n)
+    (λ _ _ _ _ _ _ _ _ n. 16 - n)
     (λ c. search halves)
     (λ c κs. search halves)
-    (λ c. search halves)
-    (λ c. search halves)
+    (λ c κs. search halves)
     (λ c. search halves)
     (λ c κs. search halves)
     (λ c. search halves)

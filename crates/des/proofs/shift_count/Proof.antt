@@ -1,5 +1,6 @@
-use Rattle.des.specs.Tables.{shiftTable}
 use borrow.Author.Needs.{needs}
+use Rattle.des.specs.Tables.{shiftTable}
+use Rattle.des.proofs.Rows.{shift-few}
 use Rattle.des.proofs.shift_count.Statement.{statement}
 use Rattle.des.proofs.shift_count.Tie as tie
 
@@ -9,4 +10,4 @@ shift-count-spec =
     tie.close
     (tie.spec
     (λ c. search needs)
-    (λ c. search needs))
+    (λ c. search (needs, shift-few)))

@@ -1,5 +1,7 @@
-use Rattle.des.specs.Des.{substituted}
-use borrow.Author.Needs.{needs}
+use Prim.Native.Nat.{_-_}
+use Rattle.des.specs.Des.{boxOf, substituted}
+use Rattle.des.specs.Bits.{bitsIn}
+use Rattle.des.proofs.Words.{Joined, words}
 use Rattle.des.proofs.substitute.Statement.{statement}
 use Rattle.des.proofs.substitute.Tie as tie
 
@@ -8,8 +10,14 @@ unfolding substituted
 substitute-spec =
     tie.close
     (tie.spec
-    (λ c κs. search needs)
-    (λ c. search needs)
-    (λ c. search needs)
-    (λ c κs. search needs)
-    (λ c. cc))
+    (λ _ w _ _ acc n. Joined 8 4 (boxOf (bitsIn 48 w)) acc n)
+    (λ _ _ _ _ _ n. 8 - n)
+    (λ c. search words)
+    (λ c κs. search words)
+    (λ c. search words)
+    (λ c. search words)
+    (λ c. search words)
+    (λ c. search words)
+    (λ c. search words)
+    (λ c. search words)
+    (λ c. search words))

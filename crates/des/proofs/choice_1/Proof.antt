@@ -1,0 +1,30 @@
+use Rattle.des.specs.Tables.{pc1Table}
+use Rattle.des.specs.Bits.{names}
+use Rattle.des.proofs.Words.{row-on, row-last, rows-are}
+use borrow.Author.Needs.{needs}
+use Rattle.des.proofs.choice_1.Statement.{statement}
+use Rattle.des.proofs.choice_1.Tie as tie
+
+pub choice-1-spec : {M : Type 1} → statement M
+unfolding pc1Table names
+choice-1-spec =
+    tie.close
+    (tie.spec
+    (λ c κs. search needs)
+    (λ c κs. search needs)
+    (λ c κs. search needs)
+    (λ c κs. search needs)
+    (λ c κs. search needs)
+    (λ c κs. search needs)
+    (λ c κs. search needs)
+    (λ c. search needs)
+    (λ c κs. search needs)
+    (λ c.
+    rows-are _ (c .word-of .ensures)
+    (row-on _ _ _ _ _ (c .before .before .before .before .before .before .before .before .row .ensures)
+    (row-on _ _ _ _ _ (c .before .before .before .before .before .before .before .row2 .ensures)
+    (row-on _ _ _ _ _ (c .before .before .before .before .before .before .row3 .ensures)
+    (row-on _ _ _ _ _ (c .before .before .before .before .before .row4 .ensures)
+    (row-on _ _ _ _ _ (c .before .before .before .before .row5 .ensures)
+    (row-on _ _ _ _ _ (c .before .before .before .row6 .ensures)
+    (row-last _ _ _ (c .before .before .row7 .ensures))))))))))

@@ -1,0 +1,32 @@
+use Rattle.des.specs.Tables.{fpTable}
+use Rattle.des.specs.Bits.{names}
+use Rattle.des.proofs.Words.{row-on, row-last, rows-are}
+use borrow.Author.Needs.{needs}
+use Rattle.des.proofs.last.Statement.{statement}
+use Rattle.des.proofs.last.Tie as tie
+
+pub last-spec : {M : Type 1} → statement M
+unfolding fpTable names
+last-spec =
+    tie.close
+    (tie.spec
+    (λ c κs. search needs)
+    (λ c κs. search needs)
+    (λ c κs. search needs)
+    (λ c κs. search needs)
+    (λ c κs. search needs)
+    (λ c κs. search needs)
+    (λ c κs. search needs)
+    (λ c κs. search needs)
+    (λ c. search needs)
+    (λ c κs. search needs)
+    (λ c.
+    rows-are _ (c .word-of .ensures)
+    (row-on _ _ _ _ _ (c .before .before .before .before .before .before .before .before .before .row .ensures)
+    (row-on _ _ _ _ _ (c .before .before .before .before .before .before .before .before .row2 .ensures)
+    (row-on _ _ _ _ _ (c .before .before .before .before .before .before .before .row3 .ensures)
+    (row-on _ _ _ _ _ (c .before .before .before .before .before .before .row4 .ensures)
+    (row-on _ _ _ _ _ (c .before .before .before .before .before .row5 .ensures)
+    (row-on _ _ _ _ _ (c .before .before .before .before .row6 .ensures)
+    (row-on _ _ _ _ _ (c .before .before .before .row7 .ensures)
+    (row-last _ _ _ (c .before .before .row8 .ensures)))))))))))
