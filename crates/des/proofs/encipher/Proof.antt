@@ -1,4 +1,4 @@
-use Rattle.des.proofs.Words.{octets-in}
+use Rattle.des.proofs.Joins.{octets-in}
 use Rattle.des.proofs.Halves.{enciphered-is}
 use borrow.Author.Needs.{needs}
 use Rattle.des.proofs.encipher.Statement.{statement}

@@ -1,5 +1,5 @@
 use Rattle.des.specs.Keys.{keyOctets}
-use Rattle.des.proofs.Words.{octets-in}
+use Rattle.des.proofs.Joins.{octets-in}
 use borrow.Author.Needs.{needs}
 use Rattle.des.proofs.key_octets.Statement.{statement}
 use Rattle.des.proofs.key_octets.Tie as tie

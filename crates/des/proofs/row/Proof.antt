@@ -1,5 +1,5 @@
 use Prim.Native.Nat.{_-_}
-use Rattle.des.proofs.Words.{Named, words}
+use Rattle.des.proofs.Joins.{Named, words}
 use Rattle.des.proofs.row.Statement.{statement}
 use Rattle.des.proofs.row.Tie as tie
 

@@ -1,7 +1,7 @@
 use Prim.Native.Nat.{_-_}
 use Rattle.des.specs.Des.{boxOf, substituted}
 use Rattle.des.specs.Bits.{bitsIn}
-use Rattle.des.proofs.Words.{Joined, words}
+use Rattle.des.proofs.Joins.{Joined, words}
 use Rattle.des.proofs.substitute.Statement.{statement}
 use Rattle.des.proofs.substitute.Tie as tie
 

@@ -1,6 +1,6 @@
 use Prim.Native.Nat.{_-_}
 use lib.ListN.{length, getD}
-use Rattle.des.proofs.Words.{Joined, words}
+use Rattle.des.proofs.Joins.{Joined, words}
 use Rattle.des.proofs.word_of.Statement.{statement}
 use Rattle.des.proofs.word_of.Tie as tie
 
