@@ -64,7 +64,7 @@ fn row(entries: [u8; 8], w: u64, n: u64) -> u8
 // ---- the permutations and selections, row by row
 
 // The initial permutation.
-fn initial(w: u64) -> u64
+fn initial_permutation(w: u64) -> u64
     ensures { λ r. ⌜ Word 64 (permuted ipTable (bitsIn 64 w)) r ⌝ }
 {
     let a = row([58, 50, 42, 34, 26, 18, 10, 2], w, 64);
@@ -79,7 +79,7 @@ fn initial(w: u64) -> u64
 }
 
 // The final permutation.
-fn last(w: u64) -> u64
+fn final_permutation(w: u64) -> u64
     ensures { λ r. ⌜ Word 64 (permuted fpTable (bitsIn 64 w)) r ⌝ }
 {
     let a = row([40, 8, 48, 16, 56, 24, 64, 32], w, 64);
@@ -94,7 +94,7 @@ fn last(w: u64) -> u64
 }
 
 // The bit selection E.
-fn expand(w: u64) -> u64
+fn bit_selection(w: u64) -> u64
     ensures { λ r. ⌜ Word 48 (permuted eTable (bitsIn 32 w)) r ⌝ }
 {
     let a = row([32, 1, 2, 3, 4, 5, 4, 5], w, 32);
@@ -107,7 +107,7 @@ fn expand(w: u64) -> u64
 }
 
 // The permutation P.
-fn transpose(w: u64) -> u64
+fn permutation(w: u64) -> u64
     ensures { λ r. ⌜ Word 32 (permuted pTable (bitsIn 32 w)) r ⌝ }
 {
     let a = row([16, 7, 20, 21, 29, 12, 28, 17], w, 32);
@@ -118,7 +118,7 @@ fn transpose(w: u64) -> u64
 }
 
 // Permuted choice 1: the first C and D.
-fn choice_1(w: u64) -> u64
+fn permuted_choice_1(w: u64) -> u64
     ensures { λ r. ⌜ Word 56 (permuted pc1Table (bitsIn 64 w)) r ⌝ }
 {
     let a = row([57, 49, 41, 33, 25, 17, 9, 1], w, 64);
@@ -132,7 +132,7 @@ fn choice_1(w: u64) -> u64
 }
 
 // Permuted choice 2: the key of a round.
-fn choice_2(w: u64) -> u64
+fn permuted_choice_2(w: u64) -> u64
     ensures { λ r. ⌜ Word 48 (permuted pc2Table (bitsIn 56 w)) r ⌝ }
 {
     let a = row([14, 17, 11, 24, 1, 5, 3, 28], w, 56);
@@ -183,9 +183,9 @@ fn cipher_function(s: &[u8], right: u64, key: u64) -> u64
     requires { ⌜ now s ≡ sTable ⌝ }
     ensures { λ r. ⌜ Word 32 (cipherFunction (bitsIn 32 right) (bitsIn 48 key)) r ⌝ }
 {
-    let e = expand(right);
+    let e = bit_selection(right);
     let bits = substitute(s, e ^ key);
-    transpose(bits)
+    permutation(bits)
 }
 
 // ---- the key schedule and the rounds
@@ -206,7 +206,7 @@ fn rotate(w: u64, s: u64) -> u64
     (w << s) % 268435456 + (w >> (28 - s))
 }
 
-// C and D shifted left as round n does it.
+// C and D, the two halves of 56 bits, shifted left as round n does it; 268435456 is 2 ^ 28.
 fn shift(cd: u64, n: usize) -> u64
     requires { ⌜ (cd < 2 ^ 56) × (n < 16) ⌝ }
     ensures { λ r. ⌜ Word 56 (shifted (getD shiftTable n 0) (bitsIn 56 cd)) r ⌝ }
@@ -217,7 +217,7 @@ fn shift(cd: u64, n: usize) -> u64
     c * 268435456 + d
 }
 
-// L and R become R and L + f(R, K).
+// L and R, the two halves of 64 bits, become R and L + f(R, K); 4294967296 is 2 ^ 32.
 fn round(s: &[u8], lr: u64, key: u64) -> u64
     requires { ⌜ now s ≡ sTable ⌝ }
     ensures { λ r. ⌜ bitsIn 64 r ≡ roundOf (bitsIn 64 lr) (bitsIn 48 key) ⌝ }
@@ -238,7 +238,7 @@ fn rounds(first: u64, initial: u64) -> u64
     let mut n = 0;
     while n < 16 {
         cd = shift(cd, n);
-        let key = choice_2(cd);
+        let key = permuted_choice_2(cd);
         lr = round(&s, lr, key);
         n += 1;
     }
@@ -258,9 +258,9 @@ fn swap(lr: u64) -> u64
 pub fn encipher(key: [u8; 8], block: [u8; 8]) -> [u8; 8]
     ensures { λ r. ⌜ r ≡ enciphered key block ⌝ }
 {
-    let cd = choice_1(word_of(&key));
-    let lr = rounds(cd, initial(word_of(&block)));
-    octets_of(last(swap(lr)))
+    let cd = permuted_choice_1(word_of(&key));
+    let lr = rounds(cd, initial_permutation(word_of(&block)));
+    octets_of(final_permutation(swap(lr)))
 }
 
 // ---- keys of seven octets

@@ -21,10 +21,10 @@ encipher-spec =
     (λ c.
     enciphered-is _ _ _ _ _ _ _ _ _ _
     (octets-in 8 _ _ (c .before .before .before .before .before .before .before .before .word-of .ensures) (search needs))
-    (c .before .before .before .before .before .before .before .choice-1 .ensures)
+    (c .before .before .before .before .before .before .before .permuted-choice-1 .ensures)
     (octets-in 8 _ _ (c .before .before .before .before .before .word-of2 .ensures) (search needs))
-    (c .before .before .before .before .initial .ensures)
+    (c .before .before .before .before .initial-permutation .ensures)
     (c .before .before .before .rounds .ensures)
     (c .before .before .swap .ensures)
-    (c .before .last .ensures)
+    (c .before .final-permutation .ensures)
     (c .octets-of .ensures)))

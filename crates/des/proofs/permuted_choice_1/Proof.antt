@@ -2,12 +2,12 @@ use Rattle.des.specs.Tables.{pc1Table}
 use Rattle.des.specs.Bits.{names}
 use Rattle.des.proofs.Words.{row-on, row-last, rows-are}
 use borrow.Author.Needs.{needs}
-use Rattle.des.proofs.choice_1.Statement.{statement}
-use Rattle.des.proofs.choice_1.Tie as tie
+use Rattle.des.proofs.permuted_choice_1.Statement.{statement}
+use Rattle.des.proofs.permuted_choice_1.Tie as tie
 
-pub choice-1-spec : {M : Type 1} → statement M
+pub permuted-choice-1-spec : {M : Type 1} → statement M
 unfolding pc1Table names
-choice-1-spec =
+permuted-choice-1-spec =
     tie.close
     (tie.spec
     (λ c κs. search needs)

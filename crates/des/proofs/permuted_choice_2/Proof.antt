@@ -2,12 +2,12 @@ use Rattle.des.specs.Tables.{pc2Table}
 use Rattle.des.specs.Bits.{names}
 use Rattle.des.proofs.Words.{row-on, row-last, rows-are}
 use borrow.Author.Needs.{needs}
-use Rattle.des.proofs.choice_2.Statement.{statement}
-use Rattle.des.proofs.choice_2.Tie as tie
+use Rattle.des.proofs.permuted_choice_2.Statement.{statement}
+use Rattle.des.proofs.permuted_choice_2.Tie as tie
 
-pub choice-2-spec : {M : Type 1} → statement M
+pub permuted-choice-2-spec : {M : Type 1} → statement M
 unfolding pc2Table names
-choice-2-spec =
+permuted-choice-2-spec =
     tie.close
     (tie.spec
     (λ c κs. search needs)

@@ -2,12 +2,12 @@ use Rattle.des.specs.Tables.{ipTable}
 use Rattle.des.specs.Bits.{names}
 use Rattle.des.proofs.Words.{row-on, row-last, rows-are}
 use borrow.Author.Needs.{needs}
-use Rattle.des.proofs.initial.Statement.{statement}
-use Rattle.des.proofs.initial.Tie as tie
+use Rattle.des.proofs.initial_permutation.Statement.{statement}
+use Rattle.des.proofs.initial_permutation.Tie as tie
 
-pub initial-spec : {M : Type 1} → statement M
+pub initial-permutation-spec : {M : Type 1} → statement M
 unfolding ipTable names
-initial-spec =
+initial-permutation-spec =
     tie.close
     (tie.spec
     (λ c κs. search needs)

@@ -2,12 +2,12 @@ use Rattle.des.specs.Tables.{eTable}
 use Rattle.des.specs.Bits.{names}
 use Rattle.des.proofs.Words.{row-on, row-last, rows-are}
 use borrow.Author.Needs.{needs}
-use Rattle.des.proofs.expand.Statement.{statement}
-use Rattle.des.proofs.expand.Tie as tie
+use Rattle.des.proofs.bit_selection.Statement.{statement}
+use Rattle.des.proofs.bit_selection.Tie as tie
 
-pub expand-spec : {M : Type 1} → statement M
+pub bit-selection-spec : {M : Type 1} → statement M
 unfolding eTable names
-expand-spec =
+bit-selection-spec =
     tie.close
     (tie.spec
     (λ c κs. search needs)

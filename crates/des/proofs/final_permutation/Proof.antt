@@ -2,12 +2,12 @@ use Rattle.des.specs.Tables.{fpTable}
 use Rattle.des.specs.Bits.{names}
 use Rattle.des.proofs.Words.{row-on, row-last, rows-are}
 use borrow.Author.Needs.{needs}
-use Rattle.des.proofs.last.Statement.{statement}
-use Rattle.des.proofs.last.Tie as tie
+use Rattle.des.proofs.final_permutation.Statement.{statement}
+use Rattle.des.proofs.final_permutation.Tie as tie
 
-pub last-spec : {M : Type 1} → statement M
+pub final-permutation-spec : {M : Type 1} → statement M
 unfolding fpTable names
-last-spec =
+final-permutation-spec =
     tie.close
     (tie.spec
     (λ c κs. search needs)

@@ -2,12 +2,12 @@ use Rattle.des.specs.Tables.{pTable}
 use Rattle.des.specs.Bits.{names}
 use Rattle.des.proofs.Words.{row-on, row-last, rows-are}
 use borrow.Author.Needs.{needs}
-use Rattle.des.proofs.transpose.Statement.{statement}
-use Rattle.des.proofs.transpose.Tie as tie
+use Rattle.des.proofs.permutation.Statement.{statement}
+use Rattle.des.proofs.permutation.Tie as tie
 
-pub transpose-spec : {M : Type 1} → statement M
+pub permutation-spec : {M : Type 1} → statement M
 unfolding pTable names
-transpose-spec =
+permutation-spec =
     tie.close
     (tie.spec
     (λ c κs. search needs)
