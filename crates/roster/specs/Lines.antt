@@ -10,7 +10,6 @@ use Rattle.octets.specs.Lists.{cells}
 use Rattle.octets.specs.Octets.{octetIs, same, standsAt, hexStands, unhexAt}
 use Rattle.accounts.specs.Accounts.{isCode}
 use Rattle.password.specs.Hashed.{hashedOf}
-use Rattle.password.specs.declared.Hashed.{Hashed}
 use Rattle.password.specs.declared.Spelling.{Spelling}
 use Rattle.password.specs.declared.Spelling.the-variants as spelling
 use Rattle.roster.specs.declared.Line.{Line}
