@@ -6,19 +6,49 @@ use mathlib.Core.Bool.{Bool, true, false}
 use native.Mathlib.Nat.{add-zero, add-suc, le-refl}
 use native.Mathlib.Numerals.{add-one}
 use native.Mathlib.Omega.{arith}
-use lib.ListN.{length, getD, drop, drop-of-length-le, List·getD-eq-default}
-use lib.Seq.{drop-cons}
+use lib.ListN.{length, getD, take, drop, set, length-append, length-take, length-drop, drop-of-length-le, List·getD-eq-default}
+use lib.Seq.{drop-cons, getD-take, take-append-seam}
 use lib.Dec.{eqb}
 use lib.Bits.{bitOr, bitXor, or-zero-r, xor-self, or-add-and, xor-add-and, and-le-l, and-le-r}
 use borrow.Author.Tests.{eq-eqb, ne-eqb, eqb-true}
 use Rattle.octets.specs.Choice.{pick}
+use Rattle.octets.specs.Lists.{sized, over, put}
 use Rattle.octets.specs.declared.Order.{Order}
 use Rattle.octets.specs.Octets.{pairOf, numberAt, same, isHex, allHex, hexValue, unhexAt, isDigit, digits, digitValue, numberFrom}
 use Rattle.octets.proofs.Exits.{exits, pick-true, pick-false}
-use Rattle.octets.proofs.Loops.{loops}
+use Rattle.octets.proofs.Lists.{cells-same, sized-own, put-front}
+use Rattle.octets.proofs.Loops.{Filled, fill-more, fill-done, loops}
 
 pub getD-past : (s : List ℕ) (i : ℕ) → length s ≤ i → 0 ≡ getD s i 0
 getD-past s i h = sym (List·getD-eq-default s 0 h)
+
+-- ---- a slice filled by what another has, and then by zeros
+pub record Filling (src : List ℕ) (n : ℕ) (dst : List ℕ) (i : ℕ) : Type 0 where
+  pub past : length (take n src) ≤ i
+  pub filled : Filled n (λ k. getD src k 0) dst i
+
+pub fill-copied : (d src t l : List ℕ) (n : ℕ) → n ≡ length d → t ≡ take n (drop 0 src) → l ≡ put d 0 t → Filling src n l (length t)
+unfolding sized
+fill-copied d src t l n e f g =
+    let k : length t ≤ n = omega (arith, ap length f, length-take n src) in
+    let o : l ≡ over t d = g ∙ put-front d t (omega arith) in
+    let long : length l ≡ n = ap length o ∙ length-append t (drop (length t) d) ∙ omega (arith, length-drop (length t) d) in
+    let at : (j : ℕ) → j < length t → getD t j 0 ≡ getD src j 0 = λ j h. ap (λ (x : List ℕ). getD x j 0) f ∙ getD-take n src j 0 (omega arith) in
+    record {
+      past = omega (arith, ap length f);
+      filled = record {
+        long = long;
+        most = k;
+        front = ap (take (length t)) o ∙ take-append-seam t (drop (length t) d) ∙ sym (sized-own (length t) t refl) ∙ cells-same (length t) _ _ at;
+      };
+    }
+
+pub fill-zeroed : {src dst : List ℕ} {n i : ℕ} → Filling src n dst i → i < n → Filling src n (set dst i 0) (i + 1)
+fill-zeroed {src} {dst} {n} {i} p h = record { past = omega arith; filled = fill-more (p .filled) h (getD-past src i (omega (arith, length-take n src))) }
+
+pub fill-sized : {src dst : List ℕ} {n i : ℕ} → Filling src n dst i → n ≤ i → dst ≡ sized n src
+unfolding sized
+fill-sized p h = fill-done (p .filled) h
 
 pub number-past : (o : Order) (p : List ℕ) (i r : ℕ) → length p ≤ i → r ≡ pairOf o 0 0 → r ≡ numberAt o p i
 unfolding numberAt

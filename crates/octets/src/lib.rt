@@ -50,19 +50,6 @@ pub fn part(p: &[u8], i: usize, n: usize) -> &[u8]
     t
 }
 
-// Fills dst with the octets of src, and zeros after them.
-pub fn fill(dst: &mut [u8], src: &[u8])
-    ensures { λ r. ⌜ now (dst .exit) ≡ sized (length (now (dst .entry))) (now (src .entry)) ⌝ }
-{
-    let n = dst.len();
-    let mut i = 0;
-    while i < n {
-        let x = octet(src, i);
-        dst[i] = x;
-        i += 1;
-    }
-}
-
 // Copies src into dst from i where it fits; else dst stays as it is.
 pub fn put_at(dst: &mut [u8], i: usize, src: &[u8])
     ensures { λ r. ⌜ now (dst .exit) ≡ put (now (dst .entry)) i (now (src .entry)) ⌝ }
@@ -77,6 +64,20 @@ pub fn put_at(dst: &mut [u8], i: usize, src: &[u8])
     while j < src.len() {
         dst[i + j] = src[j];
         j += 1;
+    }
+}
+
+// Fills dst with the octets of src, and zeros after them.
+pub fn fill(dst: &mut [u8], src: &[u8])
+    ensures { λ r. ⌜ now (dst .exit) ≡ sized (length (now (dst .entry))) (now (src .entry)) ⌝ }
+{
+    let n = dst.len();
+    let t = part(src, 0, n);
+    put_at(dst, 0, t);
+    let mut i = t.len();
+    while i < n {
+        dst[i] = 0;
+        i += 1;
     }
 }
 
