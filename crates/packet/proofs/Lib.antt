@@ -6,3 +6,4 @@ pub mod Order
 pub mod Exact
 pub mod Alike
 pub mod Places
+mod Absent

@@ -1,7 +1,7 @@
 // The packets of document 01, "Packet forms", and their reader.
 ghost use mathlib.Core.Path.{_≡_};
 ghost use Prim.Native.Nat.{_≤_};
-ghost use lib.ListN.{drop};
+ghost use lib.ListN.{drop, getD};
 ghost use Rattle.octets.specs.Lists.{cells, sized, part};
 ghost use Rattle.octets.specs.Octets.{digits, number, unhexAt};
 ghost use Rattle.packet.specs.Reader.{toldReading, readPacket, readCut, readWhole, readAt, readAtPeer, readAtServer, chapOk, chapRead, readChallenge, readResponse, readSuccess, readFailure, failureMiddle, failureEnd, failureVersion, failureCode, isBit, failureKind, isVersion, failureRead, bareRead, readBare};
@@ -340,7 +340,9 @@ fn read_bare(kind: Kind, l: usize, q: &[u8]) -> Reading
     bare_read(kind, q)
 }
 
+// The Type and the OpCode count as 0 where there are none, which no packet has.
 fn read_at_peer(code: u8, kind: u8, op: u8, q: &[u8]) -> Reading
+    requires { ⌜ (kind ≡ getD (now q) 4 0) × (op ≡ getD (now q) 5 0) ⌝ }
     ensures { λ r. ⌜ toldReading r ≡ readAtPeer code kind op (now (q .entry)) ⌝ }
 {
     if code == 3 {
@@ -352,14 +354,8 @@ fn read_at_peer(code: u8, kind: u8, op: u8, q: &[u8]) -> Reading
     if code != 1 {
         return Reading::Refused(Refusal::BadCode);
     }
-    if q.len() < 5 {
-        return Reading::Refused(Refusal::BadType);
-    }
     if kind != 26 {
         return Reading::Refused(Refusal::BadType);
-    }
-    if q.len() < 6 {
-        return Reading::Refused(Refusal::BadOpCode);
     }
     if op == 1 {
         return read_challenge(q);
@@ -374,19 +370,14 @@ fn read_at_peer(code: u8, kind: u8, op: u8, q: &[u8]) -> Reading
 }
 
 fn read_at_server(code: u8, kind: u8, op: u8, q: &[u8]) -> Reading
+    requires { ⌜ (kind ≡ getD (now q) 4 0) × (op ≡ getD (now q) 5 0) ⌝ }
     ensures { λ r. ⌜ toldReading r ≡ readAtServer code kind op (now (q .entry)) ⌝ }
 {
     if code != 2 {
         return Reading::Refused(Refusal::BadCode);
     }
-    if q.len() < 5 {
-        return Reading::Refused(Refusal::BadType);
-    }
     if kind != 26 {
         return Reading::Refused(Refusal::BadType);
-    }
-    if q.len() < 6 {
-        return Reading::Refused(Refusal::BadOpCode);
     }
     if op == 2 {
         return read_response(q);
@@ -401,6 +392,7 @@ fn read_at_server(code: u8, kind: u8, op: u8, q: &[u8]) -> Reading
 }
 
 fn read_at(end: End, code: u8, kind: u8, op: u8, q: &[u8]) -> Reading
+    requires { ⌜ (kind ≡ getD (now q) 4 0) × (op ≡ getD (now q) 5 0) ⌝ }
     ensures { λ r. ⌜ toldReading r ≡ readAt end code kind op (now (q .entry)) ⌝ }
 {
     match end {
