@@ -1,26 +1,27 @@
--- What this crate's functions need: requests as they are kept, the turn after a reading, a start's arguments.
-use Prim.Native.Nat.{ℕ, _≤_, _<_}
+-- What this crate's functions need: what goes out, what a verdict brings, the turn after a reading, a start's arguments.
+use Prim.Native.Nat.{ℕ, _-_, _≤_, _<_}
 use native.Mathlib.Omega.{arith}
 use mathlib.Core.Path.{_≡_, refl, sym, ap, _∙_}
 use mathlib.Core.Bool.{Bool, true, false, _&&_}
 use mathlib.Core.List.{List, [], append-nil}
-use lib.ListN.{length, take, drop, replicate, drop-of-length-le}
+use lib.ListN.{length, take, drop, length-take, drop-of-length-le}
 use lib.Dec.{eqb, ltb, leb}
-use borrow.Author.Tests.{ltb-false, eqb-false, ne-eqb, le-leb}
+use lib.Seq.{take-append-seam}
+use borrow.Author.Tests.{ltb-false, eqb-false, eq-eqb, ne-eqb, le-leb}
 use Rattle.octets.specs.Choice.{pick}
-use Rattle.octets.specs.Lists.{over}
-use Rattle.octets.specs.Octets.{decimal}
-use Rattle.octets.proofs.Exits.{pick-true, pick-false, and-both, passed}
+use Rattle.octets.specs.Lists.{over, sized}
+use Rattle.octets.specs.Octets.{decimal, same}
+use Rattle.octets.proofs.Exits.{pick-true, pick-false, and-both, passed, below, arms}
 use Rattle.octets.proofs.Decimals.{few-decimal}
-use Rattle.octets.proofs.Lists.{over-zeros, take-sized}
 use Rattle.answer.specs.Answer.{refusalOf}
-use Rattle.answer.specs.Outcome.{Outcome, outcome, Does}
+use Rattle.answer.specs.Outcome.{Outcome, outcome, refused, fitting, Does}
 use Rattle.answer.specs.declared.Answer.the-variants as answer
 use Rattle.answer.specs.declared.ChapId.{ChapId}
 use Rattle.answer.specs.declared.Identifier.{Identifier}
 use Rattle.answer.specs.declared.Refusal.{Refusal}
+use Rattle.answer.specs.declared.Refusal.the-variants.{BadTable}
 use Rattle.answer.proofs.Apart.{numbers-apart}
-use Rattle.answer.proofs.Outcomes.{fitting-so}
+use Rattle.answer.proofs.Outcomes.{fitting-so, fitting-not}
 use Rattle.packet.specs.declared.Packet.{Packet}
 use Rattle.packet.specs.declared.Reading.{Reading}
 use Rattle.packet.specs.declared.Reading.the-variants.{Refused, Read}
@@ -29,84 +30,193 @@ use Rattle.packet.specs.Reader.{toldReading}
 use Rattle.packet.proofs.Sizes.{length-challengePacket, length-successRequest, length-failureRequest}
 use Rattle.writers.specs.Writers.{writing, writeChallenge, writeSuccessRequest, writeFailureRequest}
 use Rattle.writers.proofs.Writing.{writing-so}
-use Rattle.server.specs.declared.Request.{Request}
+use Rattle.verdict.specs.declared.Mark.{Mark}
+use Rattle.verdict.specs.declared.Mark.the-variants.{Malformed, Wrong, Right}
+use Rattle.verdict.specs.declared.Verdict.{Verdict}
+use Rattle.server.specs.declared.Due.{Due}
+use Rattle.server.specs.declared.Due.the-variants as due
 use Rattle.server.specs.declared.Stage.{Stage}
-use Rattle.server.specs.declared.Stage.the-variants.{SuccessRequestSent}
+use Rattle.server.specs.declared.Stage.the-variants.{SuccessRequestSent, FailureRequestSent}
 use Rattle.server.specs.declared.Server.{Server}
 use Rattle.server.specs.declared.Turn.{Turn as Taken}
-use Rattle.server.specs.State.{Holds, nextId, chapOf, asked, askedBy}
+use Rattle.server.specs.State.{storedRequest, nextId, chapOf, asked, staged}
 use Rattle.server.specs.Moves.{Turn, refusedBy, toldTurn, turnAt, turnRead}
-use Rattle.server.specs.Calls.{asks, asksBy, startFits, rejectOf, succeedOf, takeTurn}
+use Rattle.server.specs.Calls.{sends, asks, asksBy, startFits, rejectOf, failOf, wrongOf, succeedOf, rightOf, actBy, actOf, dueOf, Brings, verdictOf, judgedOf, takeTurn, againOf}
 
--- ---- requests
--- a request as it is kept gives its octets, and the state that has asked by them
-pub asks-by : (s : Server) (stage : Stage) (id : Identifier) (challenge : List ℕ) (retries : ℕ) (q : List ℕ) (r : Request) (room : ℕ) → Holds r q
-    → asks s stage id challenge retries q room ≡ asksBy s stage id challenge retries r room
-unfolding asks asksBy asked askedBy
-asks-by s stage id challenge retries q r room h =
-    let e : take (r .len) (r .octets) ≡ q = rw (h .octets, h .len) (take-sized 282 q (h .fits)) in
-    rw (e, h .octets, h .len)
+-- ---- how long a request is
+pub challenge-fits : (id chapid : ℕ) (challenge name : List ℕ) → length challenge ≡ 16 → (1 ≤ length name) × (length name ≤ 256)
+    → (1 ≤ length (challengePacket id chapid challenge name)) × (length (challengePacket id chapid challenge name) ≤ 282)
+challenge-fits id chapid challenge name c l =
+    let e = length-challengePacket id chapid challenge name c in
+    (omega (arith, e), omega (arith, e, l .1))
 
-pub failure-fits : (id chapid code retry : ℕ) (challenge : List ℕ) → length (failureRequest id chapid code retry challenge []) ≤ 282
-failure-fits id chapid code retry challenge = omega (arith, length-failureRequest id chapid code retry (length (decimal code)) challenge [] refl, few-decimal code)
+pub success-fits : (id chapid : ℕ) (string : List ℕ) → (1 ≤ length (successRequest id chapid string [])) × (length (successRequest id chapid string []) ≤ 282)
+success-fits id chapid string =
+    let e = length-successRequest id chapid string [] in
+    (omega (arith, e), omega (arith, e))
 
--- ---- what the writers make: a packet that has a form and fits
-module _ (formed : Bool) (k n : ℕ) (q before after : List ℕ) (d : Does (writing formed (length before) q) k n tt before after) (f : formed ≡ true) (room : length q ≤ length before) (short : length q ≤ 1020) where
-  written : writing formed (length before) q ≡ outcome 0 q tt
-  written = writing-so formed (length before) q f short ∙ fitting-so (length before) tt (outcome 0 q tt) room
+pub failure-fits : (id chapid code retry : ℕ) (challenge : List ℕ) → (1 ≤ length (failureRequest id chapid code retry challenge [])) × (length (failureRequest id chapid code retry challenge []) ≤ 282)
+failure-fits id chapid code retry challenge =
+    let e = length-failureRequest id chapid code retry (length (decimal code)) challenge [] refl in
+    (omega (arith, e), omega (arith, e, few-decimal code))
 
-  pub written-n : n ≡ length q
-  written-n = d .count ∙ ap (λ (o : Outcome (Unit {0})). length (o .octets)) written
+-- ---- what goes out: q with the answer k, or 20
+module _ (k K n : ℕ) (q before after : List ℕ) (d : Does (sends (length before) k q) K n tt before after) where
+  sent-cases : {P : Type 0} → (length before < length q → Does {S = Unit {0}} (refused 20 tt) K n tt before after → P) → (length q ≤ length before → Does {S = Unit {0}} (outcome k q tt) K n tt before after → P) → P
+  sent-cases f g =
+      below (length before) (length q)
+      (λ l. let e : sends (length before) k q ≡ refused 20 tt = fitting-not _ _ _ l in f l (rw e at d))
+      (λ l. let e : sends (length before) k q ≡ outcome k q tt = fitting-so _ _ _ l in g l (rw e at d))
 
-  pub written-over : after ≡ over q before
-  written-over = d .written ∙ ap (λ (o : Outcome (Unit {0})). over (o .octets) before) written
+  -- the state left: the old one where nothing went out
+  does-sent : {S : Type 0} (s next left : S) → (n ≡ 0 → left ≡ s) → (n ≡ length q → left ≡ next) → Does (fitting (length before) s (outcome k q next)) K n left before after
+  does-sent s next left f g =
+      sent-cases
+      (λ l e. rw (fitting-not (length before) s (outcome k q next) l) (record { answered = e .answered; count = e .count; left = f (e .count); written = e .written }))
+      (λ l e. rw (fitting-so (length before) s (outcome k q next) l) (record { answered = e .answered; count = e .count; left = g (e .count); written = e .written }))
 
--- into 282 zeros: a request as it is kept
-pub holds-written : (formed : Bool) (k n : ℕ) (q after : List ℕ) → Does (writing formed 282 q) k n tt (replicate 282 0) after → formed ≡ true → length q ≤ 282
-    → Holds (record { octets = after; len = n }) q
-holds-written formed k n q after d f l =
-    let m : length q ≤ length {A = ℕ} (replicate 282 0) = l in
-    record { fits = l; octets = written-over formed k n q (replicate 282 0) after d f m (omega arith) ∙ over-zeros 282 q l; len = written-n formed k n q (replicate 282 0) after d f m (omega arith) }
+  pub sent-again : (s : Server) → k ≡ 0 → q ≡ storedRequest s → Does (againOf s (length before)) K n s before after
+  unfolding againOf
+  sent-again s z e = rw (← z, ← e) (does-sent s s s (λ _. refl) (λ _. refl))
 
+  pub sent-staged : (s next : Server) (to stage : Stage) → length q ≡ 4 → to ≡ pick (eqb n 0) (s .stage) stage → next ≡ staged to s
+      → Does (fitting (length before) s (outcome k q (staged stage s))) K n next before after
+  unfolding staged
+  sent-staged s next to stage four t e =
+      does-sent s (staged stage s) next
+      (λ z. e ∙ ap (λ (x : Stage). staged x s) (t ∙ pick-true _ _ _ (eq-eqb n 0 z)))
+      (λ z. let some : n ≡ 0 → ⊥ = λ o. omega arith in e ∙ ap (λ (x : Stage). staged x s) (t ∙ pick-false _ _ _ (ne-eqb n 0 some)))
+
+  -- w is what was written of the request q: all of it, or nothing
+  pub sent-few : (w : List ℕ) → (1 ≤ length q) × (length q ≤ 282) → w ≡ take n after → length w ≤ 282
+  sent-few w h t =
+      let m : n ≤ 282 = sent-cases (λ l e. omega (arith, e .count)) (λ l e. omega (arith, e .count, h .1)) in
+      omega (arith, ap length t, length-take n after)
+
+  pub sent-asks : (s next : Server) (stage : Stage) (id : Identifier) (challenge : List ℕ) (retries j m : ℕ) (w : List ℕ) → (1 ≤ length q) × (length q ≤ 282) → w ≡ take n after
+      → Does (asksBy s stage id challenge retries w) j m next w w → Does (asks s stage id challenge retries q (length before)) j m next before after
+  unfolding asks asksBy
+  sent-asks s next stage id challenge retries j m w h t v =
+      sent-cases
+      (λ l e.
+      let none : w ≡ [] = t ∙ ap (λ (i : ℕ). take i after) (e .count) in
+      let r : asksBy s stage id challenge retries [] ≡ refused 20 s = pick-true _ _ _ refl in
+      let u : Does (refused 20 s) j m next [] [] = rw r at (rw none at v) in
+      rw (fitting-not (length before) s (outcome 0 q (asked stage id challenge retries q)) l)
+      (record { answered = u .answered; count = u .count; left = u .left; written = e .written }))
+      (λ l e.
+      let all : w ≡ q = t ∙ rw (e .count, e .written) (take-append-seam q (drop (length q) before)) in
+      let some : length q ≡ 0 → ⊥ = λ o. omega (arith, h .0) in
+      let r : asksBy s stage id challenge retries q ≡ outcome 0 q (asked stage id challenge retries q) = pick-false _ _ _ (ne-eqb (length q) 0 some) in
+      let u : Does (outcome 0 q (asked stage id challenge retries q)) j m next q q = rw r at (rw all at v) in
+      rw (fitting-so (length before) s (outcome 0 q (asked stage id challenge retries q)) l)
+      (record { answered = u .answered; count = u .count; left = u .left; written = e .written }))
+
+-- the state that asks by what was written
+module _ (s : Server) (stage : Stage) (id : Identifier) (challenge : List ℕ) (retries : ℕ) (q : List ℕ) where
+  pub asks-none : length q ≡ 0 → Does (asksBy s stage id challenge retries q) 20 0 s q q
+  unfolding asksBy
+  asks-none z = rw (pick-true (eqb (length q) 0) (refused 20 s) (outcome 0 q (asked stage id challenge retries q)) (eq-eqb _ _ z)) (record { answered = refl; count = refl; left = refl; written = refl })
+
+  pub asks-some : (chapid : ChapId) (request : List ℕ) → (length q ≡ 0 → ⊥) → chapid ≡ chapOf id → request ≡ sized 282 q
+      → Does (asksBy s stage id challenge retries q) 0 (length q)
+      (record { stage = stage; id = id; chapid = chapid; challenge = challenge; retries = retries; request = request; requestlen = length q }) q q
+  unfolding asksBy asked
+  asks-some chapid request some c e =
+      let whole : drop (length q) q ≡ [] = drop-of-length-le q {i = length q} (omega arith) in
+      rw (pick-false (eqb (length q) 0) (refused 20 s) (outcome 0 q (asked stage id challenge retries q)) (ne-eqb _ _ some), c, e)
+      (record { answered = refl; count = refl; left = refl; written = rw whole (sym (append-nil q)) })
+
+-- ---- what the writers make: a packet that has a form
 -- into as many octets: the packet
 pub whole-written : (k n : ℕ) (q before after : List ℕ) → Does (writing true (length before) q) k n tt before after → length before ≡ length q → length q ≤ 1020 → after ≡ q
 whole-written k n q before after d e l =
+    let w : writing true (length before) q ≡ outcome 0 q tt = writing-so true (length before) q refl l ∙ fitting-so (length before) tt (outcome 0 q tt) (omega arith) in
     let z : drop (length q) before ≡ [] = drop-of-length-le before {i = length q} (omega arith) in
-    written-over true k n q before after d refl (omega arith) l ∙ rw z (append-nil q)
+    d .written ∙ ap (λ (o : Outcome (Unit {0})). over (o .octets) before) w ∙ rw z (append-nil q)
 
-module _ (id : Identifier) (chapid : ChapId) (n k : ℕ) (after : List ℕ) (e : chapid ≡ chapOf id) where
+module _ (id : Identifier) (chapid : ChapId) (k n : ℕ) (before after : List ℕ) (e : chapid ≡ chapOf id) where
   -- the same packet, with the MS-CHAPv2-ID that the server writes
-  holds-by : (q : ChapId → List ℕ) → Holds (record { octets = after; len = n }) (q chapid) → Holds (record { octets = after; len = n }) (q (chapOf id))
-  holds-by q h = rw e at h
+  written-by : (formed : Bool) (q : ChapId → List ℕ) → Does (writing formed (length before) (q chapid)) k n tt before after → formed ≡ true → length (q (chapOf id)) ≤ 1020
+      → Does (sends (length before) 0 (q (chapOf id))) k n tt before after
+  written-by formed q d f l = rw (writing-so formed (length before) (q (chapOf id)) f l) at (rw e at d)
 
-  pub challenge-holds : (challenge name : List ℕ) → length challenge ≡ 16 → (1 ≤ length name) × (length name ≤ 256)
-      → Does (writeChallenge (id .0) (chapid .0) challenge name 282) k n tt (replicate 282 0) after → Holds (record { octets = after; len = n }) (challengePacket (id .0) (chapOf id .0) challenge name)
-  challenge-holds challenge name c l d =
-      let m : length (challengePacket (id .0) (chapid .0) challenge name) ≤ 282 = omega (arith, length-challengePacket (id .0) (chapid .0) challenge name c, l .1) in
-      holds-by (λ i. challengePacket (id .0) (i .0) challenge name) (holds-written (leb 1 (length name)) k n _ after d (le-leb _ _ (l .0)) m)
+  pub challenge-sent : (challenge name : List ℕ) → length challenge ≡ 16 → (1 ≤ length name) × (length name ≤ 256) → Does (writeChallenge (id .0) (chapid .0) challenge name (length before)) k n tt before after
+      → Does (sends (length before) 0 (challengePacket (id .0) (chapOf id .0) challenge name)) k n tt before after
+  challenge-sent challenge name c l d =
+      written-by (leb 1 (length name)) (λ i. challengePacket (id .0) (i .0) challenge name) d (le-leb _ _ (l .0))
+      (omega (arith, length-challengePacket (id .0) (chapOf id .0) challenge name c, l .1))
 
-  pub success-holds : (string : List ℕ)
-      → Does (writeSuccessRequest (id .0) (chapid .0) string [] 282) k n tt (replicate 282 0) after → Holds (record { octets = after; len = n }) (successRequest (id .0) (chapOf id .0) string [])
-  success-holds string d =
-      let m : length (successRequest (id .0) (chapid .0) string []) ≤ 282 = omega (arith, length-successRequest (id .0) (chapid .0) string []) in
-      holds-by (λ i. successRequest (id .0) (i .0) string []) (holds-written true k n _ after d refl m)
+  pub success-sent : (string : List ℕ) → Does (writeSuccessRequest (id .0) (chapid .0) string [] (length before)) k n tt before after
+      → Does (sends (length before) 0 (successRequest (id .0) (chapOf id .0) string [])) k n tt before after
+  success-sent string d =
+      written-by true (λ i. successRequest (id .0) (i .0) string []) d refl (omega (arith, length-successRequest (id .0) (chapOf id .0) string []))
 
-  pub failure-holds : (code retry : ℕ) (fresh : List ℕ) → code < 65536 → retry ≤ 1
-      → Does (writeFailureRequest (id .0) (chapid .0) code retry fresh [] 282) k n tt (replicate 282 0) after → Holds (record { octets = after; len = n }) (failureRequest (id .0) (chapOf id .0) code retry fresh [])
-  failure-holds code retry fresh c r d =
-      holds-by (λ i. failureRequest (id .0) (i .0) code retry fresh [])
-      (holds-written (leb code 9999999999 && leb retry 1) k n _ after d (and-both _ _ (le-leb code 9999999999 (omega arith)) (le-leb retry 1 r)) (failure-fits (id .0) (chapid .0) code retry fresh))
+  pub failure-sent : (code retry : ℕ) (fresh : List ℕ) → code < 65536 → retry ≤ 1 → Does (writeFailureRequest (id .0) (chapid .0) code retry fresh [] (length before)) k n tt before after
+      → Does (sends (length before) 0 (failureRequest (id .0) (chapOf id .0) code retry fresh [])) k n tt before after
+  failure-sent code retry fresh c r d =
+      written-by (leb code 9999999999 && leb retry 1) (λ i. failureRequest (id .0) (i .0) code retry fresh []) d (and-both _ _ (le-leb code 9999999999 (omega arith)) (le-leb retry 1 r))
+      (omega (arith, failure-fits (id .0) (chapOf id .0) code retry fresh .1))
 
--- the same of the next request
-pub reject-by : (s : Server) (stage : Stage) (retries code retry : ℕ) (fresh : List ℕ) (id : Identifier) (r : Request) (room : ℕ) → id ≡ nextId (s .id)
-    → Holds r (failureRequest (id .0) (chapOf id .0) code retry fresh []) → rejectOf s stage retries code retry fresh room ≡ asksBy s stage id fresh retries r room
-unfolding rejectOf
-reject-by s stage retries code retry fresh id r room e h = rw (← e) (asks-by s stage id fresh retries _ r room h)
+-- ---- the act
+-- the next request, under its Identifier, of which w was written
+module _ (s next : Server) (id : Identifier) (k n j m : ℕ) (before after w : List ℕ) (e : id ≡ nextId (s .id)) (t : w ≡ take n after) where
+  pub reject-by : (stage : Stage) (retries code retry : ℕ) (fresh : List ℕ) → Does (sends (length before) 0 (failureRequest (id .0) (chapOf id .0) code retry fresh [])) k n tt before after
+      → Does (asksBy s stage id fresh retries w) j m next w w → Does (rejectOf s stage retries code retry fresh (length before)) j m next before after
+  unfolding rejectOf
+  reject-by stage retries code retry fresh d v = rw (← e) (sent-asks 0 k n _ before after d s next stage id fresh retries j m w (failure-fits _ _ code retry fresh) t v)
 
-pub succeed-by : (s : Server) (string : List ℕ) (id : Identifier) (r : Request) (room : ℕ) → id ≡ nextId (s .id)
-    → Holds r (successRequest (id .0) (chapOf id .0) string []) → succeedOf s string room ≡ asksBy s SuccessRequestSent id (s .challenge) (s .retries) r room
-unfolding succeedOf
-succeed-by s string id r room e h = rw (← e) (asks-by s SuccessRequestSent id (s .challenge) (s .retries) _ r room h)
+  pub succeed-by : (string : List ℕ) → Does (sends (length before) 0 (successRequest (id .0) (chapOf id .0) string [])) k n tt before after
+      → Does (asksBy s SuccessRequestSent id (s .challenge) (s .retries) w) j m next w w → Does (succeedOf s string (length before)) j m next before after
+  unfolding succeedOf
+  succeed-by string d v = rw (← e) (sent-asks 0 k n _ before after d s next SuccessRequestSent id (s .challenge) (s .retries) j m w (success-fits _ _ string) t v)
+
+pub digit-few : (b : Bool) (r : ℕ) → r ≡ pick b 1 0 → r ≤ 1
+digit-few b r e = rw e (arms (λ n. n ≤ 1) b (omega arith) (omega arith))
+
+pub fail-by : (s : Server) (stage : Stage) (retries code retry digit : ℕ) (fresh : List ℕ) (room : ℕ) → same fresh (s .challenge) ≡ false → digit ≡ retry
+    → failOf s stage retries code retry fresh room ≡ rejectOf s stage retries code digit fresh room
+unfolding failOf
+fail-by s stage retries code retry digit fresh room b e = pick-false _ _ _ b ∙ rw e refl
+
+-- what a verdict brings
+module _ (s : Server) where
+  pub wrong-last : s .retries ≡ 0 → Brings (due.Failure (record { stage = FailureRequestSent; retries = s .retries; code = 691; retry = false })) s (λ _. wrongOf s)
+  unfolding wrongOf dueOf pick
+  wrong-last z = record { done = λ string fresh room. pick-true _ _ _ (eq-eqb _ _ z) }
+
+  pub wrong-left : (s .retries ≡ 0 → ⊥) → Brings (due.Failure (record { stage = s .stage; retries = s .retries - 1; code = 691; retry = true })) s (λ _. wrongOf s)
+  unfolding wrongOf dueOf pick
+  wrong-left z = record { done = λ string fresh room. pick-false _ _ _ (ne-eqb _ _ z) }
+
+  pub right-granted : (code : ℕ) → code ≡ 0 → Brings due.Success s (rightOf s code)
+  unfolding rightOf dueOf
+  right-granted code z = record { done = λ string fresh room. pick-true _ _ _ (eq-eqb _ _ z) }
+
+  pub right-denied : (code : ℕ) → (code ≡ 0 → ⊥) → Brings (due.Failure (record { stage = FailureRequestSent; retries = s .retries; code = code; retry = false })) s (rightOf s code)
+  unfolding rightOf dueOf pick
+  right-denied code z = record { done = λ string fresh room. pick-false _ _ _ (ne-eqb _ _ z) }
+
+  pub due-malformed : (mark : Mark) (code : ℕ) → mark ≡ Malformed → Brings (due.Refused BadTable) s (actBy mark s code)
+  unfolding actBy dueOf
+  due-malformed mark code e = record { done = λ string fresh room. rw e refl }
+
+  pub due-wrong : (mark : Mark) (code : ℕ) (d : Due) → mark ≡ Wrong → Brings d s (λ _. wrongOf s) → Brings d s (actBy mark s code)
+  unfolding actBy
+  due-wrong mark code d e b = record { done = λ string fresh room. rw e (b .done string fresh room) }
+
+  pub due-right : (mark : Mark) (code : ℕ) (d : Due) → mark ≡ Right → Brings d s (rightOf s code) → Brings d s (actBy mark s code)
+  unfolding actBy
+  due-right mark code d e b = record { done = λ string fresh room. rw e (b .done string fresh room) }
+
+  -- d is e
+  pub due-told : (d e : Due) (string fresh : List ℕ) (room : ℕ) (o : Outcome Server) → d ≡ e → dueOf e s string fresh room ≡ o → dueOf d s string fresh room ≡ o
+  due-told d e string fresh room o p h = rw p h
+
+  pub judged-by : (k : Packet) (p table fresh : List ℕ) (room : ℕ) (v : Verdict) (d : Due) → v ≡ verdictOf s k p table → Brings d s (actBy (v .mark) s (v .code))
+      → judgedOf k s p table fresh room ≡ dueOf d s (v .string) fresh room
+  unfolding judgedOf actOf
+  judged-by k p table fresh room v d e b = rw (← e) (b .done (v .string) fresh room)
 
 -- ---- the turn after a reading
 not-zero : (why : Refusal) → eqb (refusalOf why) 0 ≡ false

@@ -136,9 +136,9 @@ stored-after x s c = go (effect x s c)
     go (starting {id} {challenge} {name} b f) z =
         stored-asked _ _ _ _ _ (omega (arith, length-challengePacket (id .0) (chapOf id .0) challenge name z, start-named (length name) _ f .1))
     go (granting t v) z = stored-asked _ _ _ _ _ (omega (arith, length-successRequest (nextId (s .id) .0) (chapOf (nextId (s .id)) .0) t []))
-    go (denying k t v n d) z = stored-asked _ _ _ _ _ (failure-fits _ _ _ _ _)
-    go (retrying k t v n d) z = stored-asked _ _ _ _ _ (failure-fits _ _ _ _ _)
-    go (rejecting k t v n d) z = stored-asked _ _ _ _ _ (failure-fits _ _ _ _ _)
+    go (denying k t v n d) z = stored-asked _ _ _ _ _ (failure-fits _ _ _ _ _ .1)
+    go (retrying k t v n d) z = stored-asked _ _ _ _ _ (failure-fits _ _ _ _ _ .1)
+    go (rejecting k t v n d) z = stored-asked _ _ _ _ _ (failure-fits _ _ _ _ _ .1)
     go (confirming k u t) z = refl
     go (ending k u t) z = refl
     go (resending e) z = refl

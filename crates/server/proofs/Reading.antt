@@ -188,12 +188,12 @@ module _ (x : Side) (s : Server) (before : sent (s .stage) ≡ true → Outstand
       outstanding-asked _ _ _ _ _ (success-meant s string (string-octets v)) (omega (arith, l)) refl refl refl (sym l)
   outstanding-after (denying {fresh = fresh} code string v n d) z g =
       let c = code-three v n in
-      outstanding-asked _ _ _ _ _ (failure-meant s code 0 fresh c (omega arith) (z .1)) (failure-fits _ _ code 0 fresh) refl refl refl (sym (length-failureRequest-60 _ _ code 0 fresh (c .0) (c .1)))
+      outstanding-asked _ _ _ _ _ (failure-meant s code 0 fresh c (omega arith) (z .1)) (failure-fits _ _ code 0 fresh .1) refl refl refl (sym (length-failureRequest-60 _ _ code 0 fresh (c .0) (c .1)))
   outstanding-after (retrying {fresh = fresh} code string v n d) z g =
-      outstanding-asked _ _ _ _ _ (failure-meant s 691 1 fresh (omega arith) (omega arith) (z .1)) (failure-fits _ _ 691 1 fresh) (rw (v .taken .stage) (inr refl)) refl refl
+      outstanding-asked _ _ _ _ _ (failure-meant s 691 1 fresh (omega arith) (omega arith) (z .1)) (failure-fits _ _ 691 1 fresh .1) (rw (v .taken .stage) (inr refl)) refl refl
       (sym (length-failureRequest-60 _ _ 691 1 fresh (omega arith) (omega arith)))
   outstanding-after (rejecting {fresh = fresh} code string v n d) z g =
-      outstanding-asked _ _ _ _ _ (failure-meant s 691 0 fresh (omega arith) (omega arith) (z .1)) (failure-fits _ _ 691 0 fresh) refl refl refl
+      outstanding-asked _ _ _ _ _ (failure-meant s 691 0 fresh (omega arith) (omega arith) (z .1)) (failure-fits _ _ 691 0 fresh .1) refl refl refl
       (sym (length-failureRequest-60 _ _ 691 0 fresh (omega arith) (omega arith)))
   outstanding-after (confirming k u t) z g = clash refl g
   outstanding-after (ending k u t) z g = clash refl g

@@ -1,12 +1,14 @@
 -- 01, "What a call answers" and "The server's moves": what each call of the server does. s is the state before it, room the length of the reply buffer.
 use Prim.Native.Nat.{ℕ, _-_}
+use mathlib.Core.Path.{_≡_}
 use mathlib.Core.List.{List, []}
 use mathlib.Core.Bool.{Bool, true, false, not}
-use lib.ListN.{length, take, drop}
+use lib.ListN.{length, drop}
 use lib.Dec.{ltb, eqb}
 use Rattle.octets.specs.Choice.{pick}
 use Rattle.octets.specs.Lists.{part, sized}
 use Rattle.octets.specs.Octets.{same}
+use Rattle.answer.specs.Answer.{refusalOf}
 use Rattle.answer.specs.Outcome.{Outcome, outcome, refused, fitting}
 use Rattle.answer.specs.declared.Identifier.{Identifier}
 use Rattle.packet.specs.declared.Packet.{Packet}
@@ -15,20 +17,25 @@ use Rattle.verdict.specs.declared.Mark.{Mark}
 use Rattle.verdict.specs.declared.Mark.the-variants.{Malformed, Wrong, Right}
 use Rattle.verdict.specs.declared.Verdict.{Verdict}
 use Rattle.verdict.specs.Verdict.{judgeOf}
-use Rattle.server.specs.declared.Request.{Request}
+use Rattle.server.specs.declared.Due.{Due}
+use Rattle.server.specs.declared.Due.the-variants as due
 use Rattle.server.specs.declared.Stage.{Stage}
 use Rattle.server.specs.declared.Stage.the-variants.{ChallengeSent, SuccessRequestSent, FailureRequestSent, Success, Failed}
 use Rattle.server.specs.declared.Server.{Server}
-use Rattle.server.specs.State.{storedRequest, nextId, chapOf, asked, askedBy, staged}
+use Rattle.server.specs.State.{storedRequest, nextId, chapOf, asked, staged}
 use Rattle.server.specs.Moves.{begins, sent, Turn, refusedBy, judges, confirms, ends, turnOf}
+
+-- the octets q go out with the answer k
+abbrev pub sends : ℕ → ℕ → List ℕ → Outcome (Unit {0})
+sends room k q = fitting room tt (outcome k q tt)
 
 -- a request goes out, and the state waits for its answer
 unfoldable pub asks : Server → Stage → Identifier → List ℕ → ℕ → List ℕ → ℕ → Outcome Server
 asks s stage id challenge retries q room = fitting room s (outcome 0 q (asked stage id challenge retries q))
 
--- the same, of a request as the code keeps it
-unfoldable pub asksBy : Server → Stage → Identifier → List ℕ → ℕ → Request → ℕ → Outcome Server
-asksBy s stage id challenge retries r room = fitting room s (outcome 0 (take (r .len) (r .octets)) (askedBy stage id challenge retries r))
+-- the same, of a request that was written: none is where the reply has no room
+unfoldable pub asksBy : Server → Stage → Identifier → List ℕ → ℕ → List ℕ → Outcome Server
+asksBy s stage id challenge retries q = pick (eqb (length q) 0) (refused 20 s) (outcome 0 q (asked stage id challenge retries q))
 
 -- ---- start: 19, 23, 20
 -- "a server's own 1 to 256", "retry count 0 to 10"
@@ -74,6 +81,16 @@ actBy Right s code string fresh room = rightOf s code string fresh room
 
 unfoldable pub actOf : Verdict → Server → List ℕ → ℕ → Outcome Server
 actOf v s fresh room = actBy (v .mark) s (v .code) (v .string) fresh room
+
+-- what is due by a verdict, done to s
+unfoldable pub dueOf : Due → Server → List ℕ → List ℕ → ℕ → Outcome Server
+dueOf (due.Refused why) s string fresh room = refused (refusalOf why) s
+dueOf due.Success s string fresh room = succeedOf s string room
+dueOf (due.Failure f) s string fresh room = failOf s (f .stage) (f .retries) (f .code) (pick (f .retry) 1 0) fresh room
+
+-- d is due in s where o is the act
+pub record Brings (d : Due) (s : Server) (o : List ℕ → List ℕ → ℕ → Outcome Server) : Type 0 where
+  pub done : (string fresh : List ℕ) (room : ℕ) → o string fresh room ≡ dueOf d s string fresh room
 
 -- ---- the verdict on a Response p, of which k was read: the octets at k's places
 unfoldable pub peerChallengeOf : Packet → List ℕ → List ℕ

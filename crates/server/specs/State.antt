@@ -1,12 +1,10 @@
 -- 01, "The server's moves": the state, and what each kind of move makes of it.
-use Prim.Native.Nat.{ℕ, _+_, _%_, _≤_}
-use mathlib.Core.Path.{_≡_}
+use Prim.Native.Nat.{ℕ, _+_, _%_}
 use mathlib.Core.List.{List}
 use lib.ListN.{length, take, replicate}
 use Rattle.octets.specs.Lists.{sized}
 use Rattle.answer.specs.declared.Identifier.{Identifier}
 use Rattle.answer.specs.declared.ChapId.{ChapId}
-use Rattle.server.specs.declared.Request.{Request}
 use Rattle.server.specs.declared.Stage.{Stage}
 use Rattle.server.specs.declared.Stage.the-variants.{Begin}
 use Rattle.server.specs.declared.Server.{Server}
@@ -22,12 +20,6 @@ nextId i = record { 0 = (i .0 + 1) % 256 }
 -- the MS-CHAPv2-ID beside an Identifier. 01, "Packet forms": "The server writes them equal"
 unfoldable pub chapOf : Identifier → ChapId
 chapOf i = record { 0 = i .0 }
-
--- the code keeps the request q as r: its octets, zeros after them, and its length
-pub record Holds (r : Request) (q : List ℕ) : Type 0 where
-  pub fits : length q ≤ 282
-  pub octets : r .octets ≡ sized 282 q
-  pub len : r .len ≡ length q
 
 -- ---- states after a move: "a move changes only what it names; fields not yet set are zero"
 -- a fresh server, from nothing
@@ -52,18 +44,6 @@ asked stage id challenge retries q = record {
   retries = retries;
   request = sized 282 q;
   requestlen = length q;
-}
-
--- the same, of a request as the code keeps it
-unfoldable pub askedBy : Stage → Identifier → List ℕ → ℕ → Request → Server
-askedBy stage id challenge retries r = record {
-  stage = stage;
-  id = id;
-  chapid = chapOf id;
-  challenge = challenge;
-  retries = retries;
-  request = r .octets;
-  requestlen = r .len;
 }
 
 -- the stage alone

@@ -4,15 +4,17 @@ ghost use mathlib.Core.Bool.{true};
 ghost use mathlib.Core.List.{[]};
 ghost use Prim.Native.Nat.{_≤_};
 ghost use lib.ListN.{length};
+ghost use lib.Dec.{eqb};
+ghost use Rattle.octets.specs.Choice.{pick};
 ghost use Rattle.answer.specs.Answer.{numberOf, refusalOf};
 ghost use Rattle.answer.specs.Outcome.{Does, outcome, refused, fitting};
 ghost use Rattle.packet.specs.Forms.{challengePacket, successRequest, failureRequest, eapSuccess, eapFailure};
 ghost use Rattle.packet.specs.Reader.{toldReading};
 ghost use Rattle.verdict.specs.Verdict.{judgeOf};
 ghost use Rattle.server.specs.declared.Stage.the-variants as Stage;
-ghost use Rattle.server.specs.State.{nextId, chapOf, Holds, fresh as freshServer, staged};
+ghost use Rattle.server.specs.State.{nextId, chapOf, fresh as freshServer, staged};
 ghost use Rattle.server.specs.Moves.{begins, sent, moveOf, toldTurn, turnBy, turnAt, turnRead, turnOf};
-ghost use Rattle.server.specs.Calls.{asksBy, asks, startFits, startOf, rejectOf, failOf, wrongOf, succeedOf, rightOf, actBy, judgedOf, peerChallengeOf, ntResponseOf, nameOf, confirmOf, endOf, takeTurn, packetOf, againOf, resendOf};
+ghost use Rattle.server.specs.Calls.{sends, asksBy, asks, startFits, startOf, rejectOf, failOf, wrongOf, succeedOf, rightOf, actBy, dueOf, Brings, judgedOf, peerChallengeOf, ntResponseOf, nameOf, confirmOf, endOf, takeTurn, packetOf, againOf, resendOf};
 use answer::Answer;
 use answer::ChapId;
 use answer::Identifier;
@@ -23,6 +25,7 @@ use packet::Packet;
 use packet::Reading;
 use verdict::Mark;
 use verdict::Verdict;
+use writers::Written;
 
 pub enum Stage {
     Begin,
@@ -67,10 +70,19 @@ enum Turn {
     End(Packet),
 }
 
-// A request as it is kept.
-struct Request {
-    octets: [u8; 282],
-    len: usize,
+// A Failure Request's code and R, and the stage and the retries left after it.
+struct Failure {
+    stage: Stage,
+    retries: u8,
+    code: u16,
+    retry: bool,
+}
+
+// What a verdict brings: a refusal, the Success Request, or a Failure Request.
+enum Due {
+    Refused(Refusal),
+    Success,
+    Failure(Failure),
 }
 
 // ---- stages
@@ -189,38 +201,44 @@ fn chap_of(id: Identifier) -> ChapId
 }
 
 // ---- what goes out
-fn challenge_request(id: Identifier, challenge: [u8; 16], name: &[u8]) -> Request
+fn challenge_request(id: Identifier, challenge: [u8; 16], name: &[u8], reply: &mut [u8]) -> Written
     requires { ⌜ (1 ≤ length (now name)) × (length (now name) ≤ 256) ⌝ }
-    ensures { λ r. ⌜ Holds r (challengePacket (id .0) (chapOf id .0) challenge (now (name .entry))) ⌝ }
+    ensures { λ r. ⌜ Does (sends (length (now (reply .entry))) 0 (challengePacket (id .0) (chapOf id .0) challenge (now (name .entry)))) (numberOf (r .answer)) (r .n) tt (now (reply .entry)) (now (reply .exit)) ⌝ }
 {
-    let mut octets = [0u8; 282];
-    let w = writers::write_challenge(id, chap_of(id), challenge, name, &mut octets);
-    Request { octets, len: w.n }
+    writers::write_challenge(id, chap_of(id), challenge, name, reply)
 }
 
-fn success_request(id: Identifier, string: [u8; 20]) -> Request
-    ensures { λ r. ⌜ Holds r (successRequest (id .0) (chapOf id .0) string []) ⌝ }
+fn success_request(id: Identifier, string: [u8; 20], reply: &mut [u8]) -> Written
+    ensures { λ r. ⌜ Does (sends (length (now (reply .entry))) 0 (successRequest (id .0) (chapOf id .0) string [])) (numberOf (r .answer)) (r .n) tt (now (reply .entry)) (now (reply .exit)) ⌝ }
 {
-    let mut octets = [0u8; 282];
-    let w = writers::write_success_request(id, chap_of(id), string, b"", &mut octets);
-    Request { octets, len: w.n }
+    writers::write_success_request(id, chap_of(id), string, b"", reply)
 }
 
-fn failure_request(id: Identifier, code: u16, retry: u8, fresh: [u8; 16]) -> Request
+fn failure_request(
+    id: Identifier,
+    code: u16,
+    retry: u8,
+    fresh: [u8; 16],
+    reply: &mut [u8],
+) -> Written
     requires { ⌜ retry ≤ 1 ⌝ }
-    ensures { λ r. ⌜ Holds r (failureRequest (id .0) (chapOf id .0) code retry fresh []) ⌝ }
+    ensures { λ r. ⌜ Does (sends (length (now (reply .entry))) 0 (failureRequest (id .0) (chapOf id .0) code retry fresh [])) (numberOf (r .answer)) (r .n) tt (now (reply .entry)) (now (reply .exit)) ⌝ }
 {
-    let mut octets = [0u8; 282];
-    let w = writers::write_failure_request(
-        id,
-        chap_of(id),
-        code as u64,
-        retry,
-        fresh,
-        b"",
-        &mut octets,
-    );
-    Request { octets, len: w.n }
+    writers::write_failure_request(id, chap_of(id), code as u64, retry, fresh, b"", reply)
+}
+
+// The octets into the reply, or 20.
+fn send(answer: Answer, q: &[u8], reply: &mut [u8]) -> Written
+    ensures { λ r. ⌜ Does (sends (length (now (reply .entry))) (numberOf answer) (now (q .entry))) (numberOf (r .answer)) (r .n) tt (now (reply .entry)) (now (reply .exit)) ⌝ }
+{
+    if reply.len() < q.len() {
+        return Written {
+            answer: Answer::Refused(Refusal::NoRoom),
+            n: 0,
+        };
+    }
+    octets::put_at(reply, 0, q);
+    Written { answer, n: q.len() }
 }
 
 fn eap_success(id: Identifier) -> [u8; 4]
@@ -237,6 +255,26 @@ fn eap_failure(id: Identifier) -> [u8; 4]
     let mut q = [0u8; 4];
     writers::write_eap_failure(id, &mut q);
     q
+}
+
+// The stage after n octets were sent: the old one where none were.
+fn stage_after(n: usize, old: Stage, stage: Stage) -> Stage
+    ensures { λ r. ⌜ r ≡ pick (eqb n 0) old stage ⌝ }
+{
+    if n == 0 {
+        return old;
+    }
+    stage
+}
+
+// R, as a Failure Request has it.
+fn retry_digit(retry: bool) -> u8
+    ensures { λ r. ⌜ r ≡ pick retry 1 0 ⌝ }
+{
+    if retry {
+        return 1;
+    }
+    0
 }
 
 // Whether a start's name and retry count keep to their sizes.
@@ -315,46 +353,55 @@ impl Server {
         }
     }
 
-    // The octets into the reply and the state after them, or 20.
-    fn emit(self, answer: Answer, q: &[u8], next: Server, reply: &mut [u8]) -> ServerStep
-        ensures { λ r. ⌜ Does (fitting (length (now (reply .entry))) self (outcome (numberOf answer) (now (q .entry)) next)) (numberOf (r .answer)) (r .n) (r .server) (now (reply .entry)) (now (reply .exit)) ⌝ }
-    {
-        if reply.len() < q.len() {
-            return self.refuse(Refusal::NoRoom, reply);
-        }
-        octets::put_at(reply, 0, q);
-        ServerStep {
-            answer,
-            n: q.len(),
-            server: next,
-        }
-    }
-
-    // A request goes out, and the state waits for its answer.
+    // The request q was written, and the state waits for its answer; 20 where there was no room, and q is empty.
     fn ask(
         self,
         stage: Stage,
         id: Identifier,
         challenge: [u8; 16],
         retries: u8,
-        request: Request,
-        reply: &mut [u8],
+        q: &[u8],
     ) -> ServerStep
-        requires { ⌜ request .len ≤ 282 ⌝ }
-        ensures { λ r. ⌜ Does (asksBy self stage id challenge retries request (length (now (reply .entry)))) (numberOf (r .answer)) (r .n) (r .server) (now (reply .entry)) (now (reply .exit)) ⌝ }
+        requires { ⌜ length (now q) ≤ 282 ⌝ }
+        ensures { λ r. ⌜ Does (asksBy self stage id challenge retries (now (q .entry))) (numberOf (r .answer)) (r .n) (r .server) (now (q .entry)) (now (q .entry)) ⌝ }
     {
-        let octets = request.octets;
-        let len = request.len;
-        let next = Server {
-            stage,
-            id,
-            chapid: chap_of(id),
-            challenge,
-            retries,
-            request: octets,
-            requestlen: len as u16,
-        };
-        self.emit(Answer::Written, octets::part(&octets, 0, len), next, reply)
+        if q.len() == 0 {
+            return ServerStep {
+                answer: Answer::Refused(Refusal::NoRoom),
+                n: 0,
+                server: self,
+            };
+        }
+        let mut request = [0u8; 282];
+        octets::fill(&mut request, q);
+        ServerStep {
+            answer: Answer::Written,
+            n: q.len(),
+            server: Server {
+                stage,
+                id,
+                chapid: chap_of(id),
+                challenge,
+                retries,
+                request,
+                requestlen: q.len() as u16,
+            },
+        }
+    }
+
+    // The last packet goes out, or 20.
+    fn close(self, answer: Answer, stage: Stage, q: [u8; 4], reply: &mut [u8]) -> ServerStep
+        ensures { λ r. ⌜ Does (fitting (length (now (reply .entry))) self (outcome (numberOf answer) q (staged stage self))) (numberOf (r .answer)) (r .n) (r .server) (now (reply .entry)) (now (reply .exit)) ⌝ }
+    {
+        let w = send(answer, &q, reply);
+        let answer = w.answer;
+        let old = self.stage;
+        let stage = stage_after(w.n, old, stage);
+        ServerStep {
+            answer,
+            n: w.n,
+            server: self.at(stage),
+        }
     }
 
     // ---- start
@@ -369,14 +416,13 @@ impl Server {
         requires { ⌜ startFits (length (now name)) retries ≡ true ⌝ }
         ensures { λ r. ⌜ Does (asks self Stage.ChallengeSent id challenge retries (challengePacket (id .0) (chapOf id .0) challenge (now (name .entry))) (length (now (reply .entry)))) (numberOf (r .answer)) (r .n) (r .server) (now (reply .entry)) (now (reply .exit)) ⌝ }
     {
-        let request = challenge_request(id, challenge, name);
+        let w = challenge_request(id, challenge, name, reply);
         self.ask(
             Stage::ChallengeSent,
             id,
             challenge,
             retries as u8,
-            request,
-            reply,
+            octets::part(reply, 0, w.n),
         )
     }
 
@@ -427,6 +473,54 @@ impl Server {
         self.turn_read(x)
     }
 
+    // ---- what is due
+    // Another try, with one retry fewer; the end where none is left.
+    fn wrong(self) -> Due
+        ensures { λ r. ⌜ Brings r self (λ _. wrongOf self) ⌝ }
+    {
+        let stage = self.stage;
+        if self.retries == 0 {
+            return Due::Failure(Failure {
+                stage: Stage::FailureRequestSent,
+                retries: self.retries,
+                code: 691,
+                retry: false,
+            });
+        }
+        Due::Failure(Failure {
+            stage,
+            retries: self.retries - 1,
+            code: 691,
+            retry: true,
+        })
+    }
+
+    // By the account's code.
+    fn right(self, code: u16) -> Due
+        ensures { λ r. ⌜ Brings r self (rightOf self code) ⌝ }
+    {
+        if code == 0 {
+            return Due::Success;
+        }
+        Due::Failure(Failure {
+            stage: Stage::FailureRequestSent,
+            retries: self.retries,
+            code,
+            retry: false,
+        })
+    }
+
+    // 21, or what the verdict brings.
+    fn due(self, mark: Mark, code: u16) -> Due
+        ensures { λ r. ⌜ Brings r self (actBy mark self code) ⌝ }
+    {
+        match mark {
+            Mark::Malformed => Due::Refused(Refusal::BadTable),
+            Mark::Wrong => self.wrong(),
+            Mark::Right => self.right(code),
+        }
+    }
+
     // ---- the act
     // The Failure Request, with the fresh challenge.
     fn reject(
@@ -442,45 +536,20 @@ impl Server {
         ensures { λ r. ⌜ Does (rejectOf self stage retries code retry fresh (length (now (reply .entry)))) (numberOf (r .answer)) (r .n) (r .server) (now (reply .entry)) (now (reply .exit)) ⌝ }
     {
         let id = next_id(self.id);
-        let request = failure_request(id, code, retry, fresh);
-        self.ask(stage, id, fresh, retries, request, reply)
+        let w = failure_request(id, code, retry, fresh, reply);
+        self.ask(stage, id, fresh, retries, octets::part(reply, 0, w.n))
     }
 
     // 22, then the Failure Request.
-    fn fail(
-        self,
-        stage: Stage,
-        retries: u8,
-        code: u16,
-        retry: u8,
-        fresh: [u8; 16],
-        reply: &mut [u8],
-    ) -> ServerStep
-        requires { ⌜ retry ≤ 1 ⌝ }
-        ensures { λ r. ⌜ Does (failOf self stage retries code retry fresh (length (now (reply .entry)))) (numberOf (r .answer)) (r .n) (r .server) (now (reply .entry)) (now (reply .exit)) ⌝ }
+    fn fail(self, f: Failure, fresh: [u8; 16], reply: &mut [u8]) -> ServerStep
+        ensures { λ r. ⌜ Does (failOf self (f .stage) (f .retries) (f .code) (pick (f .retry) 1 0) fresh (length (now (reply .entry)))) (numberOf (r .answer)) (r .n) (r .server) (now (reply .entry)) (now (reply .exit)) ⌝ }
     {
         let outstanding = self.challenge;
         if octets::equal(&fresh, &outstanding) {
             return self.refuse(Refusal::SameChallenge, reply);
         }
-        self.reject(stage, retries, code, retry, fresh, reply)
-    }
-
-    fn wrong(self, fresh: [u8; 16], reply: &mut [u8]) -> ServerStep
-        ensures { λ r. ⌜ Does (wrongOf self fresh (length (now (reply .entry)))) (numberOf (r .answer)) (r .n) (r .server) (now (reply .entry)) (now (reply .exit)) ⌝ }
-    {
-        let stage = self.stage;
-        if self.retries == 0 {
-            return self.fail(
-                Stage::FailureRequestSent,
-                self.retries,
-                691,
-                0,
-                fresh,
-                reply,
-            );
-        }
-        self.fail(stage, self.retries - 1, 691, 1, fresh, reply)
+        let stage = f.stage;
+        self.reject(stage, f.retries, f.code, retry_digit(f.retry), fresh, reply)
     }
 
     fn succeed(self, string: [u8; 20], reply: &mut [u8]) -> ServerStep
@@ -488,47 +557,23 @@ impl Server {
     {
         let challenge = self.challenge;
         let id = next_id(self.id);
-        let request = success_request(id, string);
+        let w = success_request(id, string, reply);
         self.ask(
             Stage::SuccessRequestSent,
             id,
             challenge,
             self.retries,
-            request,
-            reply,
+            octets::part(reply, 0, w.n),
         )
     }
 
-    fn right(self, code: u16, string: [u8; 20], fresh: [u8; 16], reply: &mut [u8]) -> ServerStep
-        ensures { λ r. ⌜ Does (rightOf self code string fresh (length (now (reply .entry)))) (numberOf (r .answer)) (r .n) (r .server) (now (reply .entry)) (now (reply .exit)) ⌝ }
+    fn act(self, d: Due, string: [u8; 20], fresh: [u8; 16], reply: &mut [u8]) -> ServerStep
+        ensures { λ r. ⌜ Does (dueOf d self string fresh (length (now (reply .entry)))) (numberOf (r .answer)) (r .n) (r .server) (now (reply .entry)) (now (reply .exit)) ⌝ }
     {
-        if code == 0 {
-            return self.succeed(string, reply);
-        }
-        self.fail(
-            Stage::FailureRequestSent,
-            self.retries,
-            code,
-            0,
-            fresh,
-            reply,
-        )
-    }
-
-    fn act_by(
-        self,
-        mark: Mark,
-        code: u16,
-        string: [u8; 20],
-        fresh: [u8; 16],
-        reply: &mut [u8],
-    ) -> ServerStep
-        ensures { λ r. ⌜ Does (actBy mark self code string fresh (length (now (reply .entry)))) (numberOf (r .answer)) (r .n) (r .server) (now (reply .entry)) (now (reply .exit)) ⌝ }
-    {
-        match mark {
-            Mark::Malformed => self.refuse(Refusal::BadTable, reply),
-            Mark::Wrong => self.wrong(fresh, reply),
-            Mark::Right => self.right(code, string, fresh, reply),
+        match d {
+            Due::Refused(why) => self.refuse(why, reply),
+            Due::Success => self.succeed(string, reply),
+            Due::Failure(f) => self.fail(f, fresh, reply),
         }
     }
 
@@ -547,7 +592,8 @@ impl Server {
         let v = verdict_on(challenge, k, p, table);
         let mark = v.mark;
         let string = v.string;
-        self.act_by(mark, v.code, string, fresh, reply)
+        let d = self.due(mark, v.code);
+        self.act(d, string, fresh, reply)
     }
 
     // EAP Success goes out.
@@ -555,8 +601,7 @@ impl Server {
         ensures { λ r. ⌜ Does (confirmOf k self (length (now (reply .entry)))) (numberOf (r .answer)) (r .n) (r .server) (now (reply .entry)) (now (reply .exit)) ⌝ }
     {
         let q = eap_success(k.id);
-        let next = self.at(Stage::Success);
-        self.emit(Answer::Authenticated, &q, next, reply)
+        self.close(Answer::Authenticated, Stage::Success, q, reply)
     }
 
     // EAP Failure goes out.
@@ -564,8 +609,7 @@ impl Server {
         ensures { λ r. ⌜ Does (endOf k self (length (now (reply .entry)))) (numberOf (r .answer)) (r .n) (r .server) (now (reply .entry)) (now (reply .exit)) ⌝ }
     {
         let q = eap_failure(k.id);
-        let next = self.at(Stage::Failed);
-        self.emit(Answer::Ended, &q, next, reply)
+        self.close(Answer::Ended, Stage::Failed, q, reply)
     }
 
     fn take_turn(
@@ -606,7 +650,13 @@ impl Server {
     {
         let request = self.request;
         let n = self.requestlen as usize;
-        self.emit(Answer::Written, octets::part(&request, 0, n), self, reply)
+        let w = send(Answer::Written, octets::part(&request, 0, n), reply);
+        let answer = w.answer;
+        ServerStep {
+            answer,
+            n: w.n,
+            server: self,
+        }
     }
 
     // The outstanding request again.

@@ -1,4 +1,4 @@
-use Rattle.server.proofs.Laws.{challenge-holds}
+use Rattle.server.proofs.Laws.{challenge-sent}
 use borrow.Author.Needs.{needs}
 use Rattle.server.proofs.challenge_request.Statement.{statement}
 use Rattle.server.proofs.challenge_request.Tie as tie
@@ -8,6 +8,6 @@ challenge-request-spec =
     tie.close
     (tie.spec
     (λ c κs. search needs)
-    (λ c. search needs)
     (λ c κs. search needs)
-    (λ c. search (needs, challenge-holds)))
+    (λ c. search needs)
+    (λ c. search (needs, challenge-sent)))

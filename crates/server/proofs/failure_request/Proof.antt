@@ -1,4 +1,4 @@
-use Rattle.server.proofs.Laws.{failure-holds}
+use Rattle.server.proofs.Laws.{failure-sent}
 use borrow.Author.Needs.{needs}
 use Rattle.server.proofs.failure_request.Statement.{statement}
 use Rattle.server.proofs.failure_request.Tie as tie
@@ -9,6 +9,6 @@ failure-request-spec =
     (tie.spec
     (λ c κs. search needs)
     (λ c. search needs)
-    (λ c. search needs)
     (λ c κs. search needs)
-    (λ c. search (needs, failure-holds)))
+    (λ c. search needs)
+    (λ c. search (needs, failure-sent)))

@@ -1,4 +1,4 @@
-use Rattle.server.proofs.Laws.{success-holds}
+use Rattle.server.proofs.Laws.{success-sent}
 use borrow.Author.Needs.{needs}
 use Rattle.server.proofs.success_request.Statement.{statement}
 use Rattle.server.proofs.success_request.Tie as tie
@@ -9,6 +9,6 @@ success-request-spec =
     (tie.spec
     (λ c κs. search needs)
     (λ c. search needs)
-    (λ c. search needs)
     (λ c κs. search needs)
-    (λ c. search (needs, success-holds)))
+    (λ c. search needs)
+    (λ c. search (needs, success-sent)))

@@ -1,12 +1,11 @@
-use Rattle.answer.proofs.Outcomes.{does-by}
+use Rattle.server.proofs.Laws.{sent-again}
 use Rattle.server.specs.State.{storedRequest}
-use Rattle.server.specs.Calls.{againOf}
 use borrow.Author.Needs.{needs}
 use Rattle.server.proofs.Server.again.Statement.{statement}
 use Rattle.server.proofs.Server.again.Tie as tie
 
 pub again-spec : {M : Type 1} → statement M
-unfolding againOf storedRequest
+unfolding storedRequest
 again-spec =
     tie.close
     (tie.spec
@@ -15,4 +14,4 @@ again-spec =
     (λ c κs. search needs)
     (λ c κs. search needs)
     (λ c. search needs)
-    (λ c. does-by _ _ _ _ _ _ _ (c .before .before .emit .ensures) (cc)))
+    (λ c. search (needs, sent-again)))

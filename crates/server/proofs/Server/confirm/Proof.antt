@@ -12,6 +12,4 @@ confirm-spec =
     (λ c κs. search needs)
     (λ c κs. search needs)
     (λ c. search needs)
-    (λ c κs. search needs)
-    (λ c. search needs)
-    (λ c. does-by _ _ _ _ _ _ _ (c .before .before .emit .ensures) (cc)))
+    (λ c. does-by _ _ _ _ _ _ _ (c .before .before .close .ensures) (cc)))

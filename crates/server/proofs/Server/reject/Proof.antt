@@ -1,5 +1,4 @@
-use Rattle.answer.proofs.Outcomes.{does}
-use Rattle.server.proofs.Laws.{reject-by}
+use Rattle.server.proofs.Laws.{failure-fits, sent-few, reject-by}
 use borrow.Author.Needs.{needs}
 use Rattle.server.proofs.Server.reject.Statement.{statement}
 use Rattle.server.proofs.Server.reject.Tie as tie
@@ -11,5 +10,6 @@ reject-spec =
     (λ c κs. search needs)
     (λ c κs. search needs)
     (λ c κs. search needs)
+    (λ c κs. sent-few _ _ _ _ _ _ (c .before .before .before .before .failure-request .ensures) _ (failure-fits _ _ _ _ _) (c .part .ensures))
     (λ c. search needs)
-    (λ c. search (does, reject-by)))
+    (λ c. search (needs, reject-by)))

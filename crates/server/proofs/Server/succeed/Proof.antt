@@ -1,5 +1,4 @@
-use Rattle.answer.proofs.Outcomes.{does}
-use Rattle.server.proofs.Laws.{succeed-by}
+use Rattle.server.proofs.Laws.{success-fits, sent-few, succeed-by}
 use borrow.Author.Needs.{needs}
 use Rattle.server.proofs.Server.succeed.Statement.{statement}
 use Rattle.server.proofs.Server.succeed.Tie as tie
@@ -11,5 +10,6 @@ succeed-spec =
     (λ c κs. search needs)
     (λ c κs. search needs)
     (λ c κs. search needs)
+    (λ c κs. sent-few _ _ _ _ _ _ (c .before .before .before .before .success-request .ensures) _ (success-fits _ _ _) (c .part .ensures))
     (λ c. search needs)
-    (λ c. search (does, succeed-by)))
+    (λ c. search (needs, succeed-by)))

@@ -1,0 +1,10 @@
+use Rattle.octets.proofs.Exits.{exits}
+use Rattle.server.proofs.retry_digit.Statement.{statement}
+use Rattle.server.proofs.retry_digit.Tie as tie
+
+pub retry-digit-spec : {M : Type 1} → statement M
+retry-digit-spec =
+    tie.close
+    (tie.spec
+    (λ c. search exits)
+    (λ c. search exits))
