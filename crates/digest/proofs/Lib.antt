@@ -1,3 +1,4 @@
+pub mod Bits
 pub mod Padding
 pub mod Operations
 pub mod Schedules

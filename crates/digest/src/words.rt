@@ -15,14 +15,16 @@ pub(crate) fn rotl(x: u32, s: u32) -> u32
     requires { ⌜ (0 < s) × (s < 32) ⌝ }
     ensures { λ r. ⌜ r ≡ words.rotl s x ⌝ }
 {
-    (x << s) | (x >> (32 - s))
+    // The remainder changes nothing, but with it the compiler sees a rotation.
+    (x << s) | (x >> ((32 - s) % 32))
 }
 
 // The bits of y where x has ones, and of z where it has zeros.
 pub(crate) fn choose(x: u32, y: u32, z: u32) -> u32
     ensures { λ r. ⌜ r ≡ words.choose x y z ⌝ }
 {
-    (x & y) | (!x & z)
+    // Equal to `(x & y) | (!x & z)`, with one operation fewer.
+    z ^ (x & (y ^ z))
 }
 
 // The bits that two of the three have.
