@@ -1,17 +1,17 @@
--- Laws of records end to end: the framing of one, the one at a place, the list of all.
-use Prim.Native.Nat.{ℕ, zero, suc, _+_, _-_, _<_, _≤_}
+-- Laws of records end to end: the framing of one, the first, the list of all.
+use Prim.Native.Nat.{ℕ, zero, suc, _-_, _<_, _≤_}
 use native.Mathlib.Nat.{not-suc-le-zero, le-of-suc-le-suc}
 use native.Mathlib.Omega.{arith}
 use mathlib.Core.Path.{_≡_, refl, sym, ap, _∙_}
 use mathlib.Core.List.{List, [], _∷_}
 use mathlib.Core.Bool.{true, false}
-use lib.ListN.{length, take, drop, length-drop, drop-of-length-le}
-use lib.Seq.{drop-drop, length-take-le}
+use lib.ListN.{length, take, drop}
+use lib.Seq.{length-take-le}
 use borrow.Author.Tests.{le-leb, lt-leb, leb-true}
 use Rattle.octets.specs.declared.Order.the-variants.{Little}
 use Rattle.octets.proofs.Parts.{number-take}
 use Rattle.octets.proofs.Exits.{below, exits, pick-true, pick-false, tested, both, and-both, and-first, and-second}
-use Rattle.accounts.specs.Records.{lengthOf, framed, head, Stands, cut, records}
+use Rattle.accounts.specs.Records.{lengthOf, framed, head, cut, records}
 
 -- ---- framing
 pub record Framed (r : List ℕ) : Type 0 where
@@ -28,37 +28,34 @@ pub so-framed : (r : List ℕ) → Framed r → framed r ≡ true
 unfolding framed
 so-framed r f = and-both _ _ (le-leb _ _ (f .low)) (le-leb _ _ (f .high))
 
--- ---- the record at a place
+-- ---- the first record, as the code finds it
 pub head-framed : (r : List ℕ) → framed r ≡ true → head r ≡ take (lengthOf r) r
 unfolding head
 head-framed r e = pick-true _ _ _ e
 
-module _ (t l : List ℕ) (at n : ℕ) (d : l ≡ drop at t) (e : n ≡ lengthOf l) where
-  none : framed l ≡ false → Stands t at []
-  unfolding head
-  none f = record { is = rw (← d) (sym (pick-false _ _ _ f)); inside = omega arith }
+head-none : (r : List ℕ) → framed r ≡ false → [] ≡ head r
+unfolding head
+head-none r e = sym (pick-false _ _ _ e)
 
-  pub stands-short : n < 4 → Stands t at []
+module _ (l : List ℕ) (n : ℕ) (e : n ≡ lengthOf l) where
+  pub head-short : n < 4 → [] ≡ head l
   unfolding framed
-  stands-short h = none (and-first _ _ (lt-leb _ _ (rw e at h)))
+  head-short h = head-none l (and-first _ _ (lt-leb _ _ (rw e at h)))
 
-  pub stands-past : 4 ≤ n → length l < n → Stands t at []
+  pub head-past : 4 ≤ n → length l < n → [] ≡ head l
   unfolding framed
-  stands-past h k = none (and-second _ _ (le-leb _ _ (rw e at h)) (lt-leb _ _ (rw e at k)))
+  head-past h k = head-none l (and-second _ _ (le-leb _ _ (rw e at h)) (lt-leb _ _ (rw e at k)))
 
-  pub stands-here : (q : List ℕ) → 4 ≤ n → n ≤ length l → q ≡ take n l → Stands t at q
-  stands-here q h k p =
-      let f : framed l ≡ true = so-framed l (record { low = omega arith; high = omega arith }) in
-      record {
-        is = p ∙ rw (← d, e) (sym (head-framed l f));
-        inside = rw p (omega (arith, length-take-le n l k, length-drop at t, ap length d));
-      }
+  pub head-here : 4 ≤ n → n ≤ length l → take (n - 0) l ≡ head l
+  head-here h k =
+      let z : n - 0 ≡ lengthOf l = omega arith in
+      rw z (sym (head-framed l (so-framed l (record { low = omega arith; high = omega arith }))))
 
 -- fewer than 4 octets left over
-pub stands-few : (t l : List ℕ) (at : ℕ) → l ≡ drop at t → length l < 4 → Stands t at []
-stands-few t l at d h = below (lengthOf l) 4 (λ n. stands-short t l at (lengthOf l) d refl n) (λ n. stands-past t l at (lengthOf l) d refl n (omega arith))
+pub head-few : (l : List ℕ) → length l < 4 → [] ≡ head l
+head-few l h = below (lengthOf l) 4 (λ n. head-short l (lengthOf l) refl n) (λ n. head-past l (lengthOf l) refl n (omega arith))
 
-pub ruleset stands = (exits, stands-few, stands-short, stands-past, stands-here)
+pub ruleset heads = (exits, head-few, head-short, head-past, head-here)
 
 -- ---- the list of records
 cut-skip : (k : ℕ) (l : List ℕ) → k ≤ length l → cut k l ≡ cut 0 (drop k l)
@@ -91,38 +88,41 @@ framed-take r e =
     let n = number-take Little (lengthOf r) r 0 (omega arith) in
     (so-framed _ (record { low = omega arith; high = omega arith }), l)
 
--- ---- a walk by place and the list: the record at a place is the next of the list, and where none begins the list ends
-pub record Next (t : List ℕ) (at : ℕ) (q : List ℕ) : Type 0 where
+-- ---- the first record and the list: it is the next of the list, and where there is none the list ends
+pub record Next (l q : List ℕ) : Type 0 where
   pub framed : framed q ≡ true
-  pub is : records (drop at t) ≡ q ∷ records (drop (at + length q) t)
+  pub fits : length q ≤ length l
+  pub is : records l ≡ q ∷ records (drop (length q) l)
 
-pub record Stops (t : List ℕ) (at : ℕ) : Type 0 where
-  pub framed : framed (drop at t) ≡ false
-  pub is : records (drop at t) ≡ drop at t ∷ []
+pub record Stops (l : List ℕ) : Type 0 where
+  pub framed : framed l ≡ false
+  pub is : records l ≡ l ∷ []
 
-module _ (t : List ℕ) (at : ℕ) (q : List ℕ) (s : Stands t at q) where
-  pub next : (length q ≡ 0 → ⊥) → Next t at q
+module _ (l q : List ℕ) (s : q ≡ head l) where
+  pub next : (length q ≡ 0 → ⊥) → Next l q
   unfolding head
-  next z = tested (framed (drop at t)) so (λ f. absurd (z (ap length (s .is ∙ pick-false _ _ _ f))))
+  next z = tested (framed l) so (λ f. absurd (z (ap length (s ∙ pick-false _ _ _ f))))
     where
-      so : framed (drop at t) ≡ true → Next t at q
+      so : framed l ≡ true → Next l q
       so f =
-          let e : q ≡ take (lengthOf (drop at t)) (drop at t) = s .is ∙ head-framed (drop at t) f in
-          let p = framed-take (drop at t) f in
-          let l : length q ≡ lengthOf (drop at t) = ap length e ∙ p .1 in
+          let e : q ≡ take (lengthOf l) l = s ∙ head-framed l f in
+          let p = framed-take l f in
+          let n : length q ≡ lengthOf l = ap length e ∙ p .1 in
           record {
             framed = rw e (p .0);
-            is = records-next (drop at t) f ∙ rw (← e, ← l, drop-drop (length q) at t);
+            fits = rw n (framed-so l f .high);
+            is = records-next l f ∙ rw (← e, ← n);
           }
 
-  pub stops : at < length t → length q ≡ 0 → Stops t at
-  stops h z = tested (framed (drop at t)) so (λ f. record { framed = f; is = records-stop (drop at t) (omega (arith, length-drop at t)) f })
+  pub stops : 0 < length l → length q ≡ 0 → Stops l
+  stops h z = tested (framed l) so (λ f. record { framed = f; is = records-stop l h f })
     where
-      so : framed (drop at t) ≡ true → Stops t at
+      so : framed l ≡ true → Stops l
       so f =
-          let n = framed-so (drop at t) f in
-          absurd (omega (arith, framed-take (drop at t) f .1, ap length (s .is ∙ head-framed (drop at t) f)))
+          let n = framed-so l f in
+          absurd (omega (arith, framed-take l f .1, ap length (s ∙ head-framed l f)))
 
-pub ends : (t : List ℕ) (at : ℕ) → length t ≤ at → records (drop at t) ≡ []
+pub ends : (l : List ℕ) → length l ≡ 0 → records l ≡ []
 unfolding records cut
-ends t at h = rw (drop-of-length-le t h)
+ends [] h = refl
+ends (x ∷ l) h = absurd (omega arith)

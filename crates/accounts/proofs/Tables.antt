@@ -41,7 +41,7 @@ all-every p none = refl
 all-every p (more h hs) = pick-true _ _ _ h ∙ all-every p hs
 
 -- ---- a good record
-good-so : (r : List ℕ) → recordGood r ≡ true → kindOf r ≡ 1 → IsAccount r
+pub good-so : (r : List ℕ) → recordGood r ≡ true → kindOf r ≡ 1 → IsAccount r
 unfolding recordGood accountGood
 good-so r e k =
     let a = passed _ _ (sym (pick-true _ _ _ (eq-eqb _ _ k)) ∙ e) in

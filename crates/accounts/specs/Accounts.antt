@@ -81,7 +81,7 @@ toldFound found.Absent = gives lookup.Absent
 toldFound (found.Account code hash) = gives (lookup.Account code hash)
 
 -- ---- one walk over the table
--- whether there is a record at a place, and it is good
+-- whether there is a record, and it is good
 unfoldable pub itemGood : List ℕ → Bool
 itemGood q = pick (eqb (length q) 0) false (recordGood q)
 

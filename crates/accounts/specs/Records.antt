@@ -1,6 +1,5 @@
 -- 01, "Account table": octets as records end to end, whatever the kinds of the records.
-use Prim.Native.Nat.{ℕ, zero, suc, _+_, _-_, _≤_}
-use mathlib.Core.Path.{_≡_}
+use Prim.Native.Nat.{ℕ, zero, suc, _+_, _-_}
 use mathlib.Core.List.{List, [], _∷_}
 use mathlib.Core.Bool.{Bool, true, false, _&&_}
 use lib.ListN.{length, take, drop}
@@ -61,12 +60,7 @@ placed at (r ∷ rs) = entry at r ∷ placed (at + length r) rs
 unfoldable pub entries : List ℕ → List Entry
 entries t = placed 0 (records t)
 
--- ---- a walk by places
+-- ---- the first record
 -- the record that r begins with; no octets where it begins with none
 unfoldable pub head : List ℕ → List ℕ
 head r = pick (framed r) (take (lengthOf r) r) []
-
--- q is the record at `at`, or no octets, and lies inside the table
-pub record Stands (t : List ℕ) (at : ℕ) (q : List ℕ) : Type 0 where
-  pub is : q ≡ head (drop at t)
-  pub inside : length q ≤ length t - at

@@ -1,9 +1,10 @@
 // The account table of document 01: whether it is well formed, and the account of a user.
 ghost use mathlib.Core.Path.{_≡_};
+ghost use mathlib.Core.Bool.{true};
 ghost use Prim.Native.Nat.{_≤_};
 ghost use Rattle.answer.specs.Answer.{numberOf};
 ghost use Rattle.answer.specs.Outcome.{gives};
-ghost use Rattle.accounts.specs.Records.{Stands, entry};
+ghost use Rattle.accounts.specs.Records.{head, entry};
 ghost use Rattle.accounts.specs.Accounts.{codeOf, isCode, accountGood, recordGood, itemGood, isAccountOf, accountIn, earlier, lookupOf, seen, checkNumber, findTold, toldFound};
 use answer::Answer;
 use answer::Refusal;
@@ -11,8 +12,6 @@ use octets::Order;
 use octets::equal;
 use octets::number_at;
 use octets::octet;
-use octets::part;
-use octets::rest;
 
 // What a table holds of a user: no account, or one, with its code and where in the table its hash of 16 octets begins.
 pub enum Lookup {
@@ -52,11 +51,10 @@ const NOTHING: Kept = Kept {
     hash: 0,
 };
 
-// The record at `at`; no octets where none begins there.
-fn record_at(table: &[u8], at: usize) -> &[u8]
-    ensures { λ r. ⌜ Stands (now (table .entry)) at (now r) ⌝ }
+// The record that `left` begins with; no octets where it begins with none.
+fn first_record(left: &[u8]) -> &[u8]
+    ensures { λ r. ⌜ now r ≡ head (now (left .entry)) ⌝ }
 {
-    let left = rest(table, at);
     if left.len() < 4 {
         return &left[0..0];
     }
@@ -67,7 +65,7 @@ fn record_at(table: &[u8], at: usize) -> &[u8]
     if left.len() < n {
         return &left[0..0];
     }
-    part(left, 0, n)
+    &left[0..n]
 }
 
 // The code of a kind-1 record.
@@ -125,36 +123,35 @@ fn item_good(item: &[u8]) -> bool
     record_good(item)
 }
 
-// Whether a record is an account of the user.
+// Whether a record that keeps to the form of its kind is an account of the user.
 fn is_account_of(user: &[u8], item: &[u8]) -> bool
+    requires { ⌜ recordGood (now item) ≡ true ⌝ }
     ensures { λ r. ⌜ r ≡ isAccountOf (now (user .entry)) (now (item .entry)) ⌝ }
 {
     let kind = number_at(Order::Little, item, 2);
     if kind == 1 {
-        let name = rest(item, 22);
-        return equal(name, user);
+        return equal(&item[22..], user);
     }
     false
 }
 
 // What was kept of the records before, or else what the record at `at` tells: it is looked at in any case.
 fn keep(kept: Kept, user: &[u8], at: usize, item: &[u8]) -> Kept
-    requires { ⌜ at ≤ 65536 ⌝ }
+    requires { ⌜ (at ≤ 65536) × (recordGood (now item) ≡ true) ⌝ }
     ensures { λ r. ⌜ lookupOf r ≡ earlier (lookupOf kept) (accountIn (now (user .entry)) (entry at (now (item .entry)))) ⌝ }
 {
-    let here = is_account_of(user, item);
+    if !is_account_of(user, item) {
+        return kept;
+    }
     if kept.found {
         return kept;
     }
-    if here {
-        let code = code_of(item);
-        return Kept {
-            found: true,
-            code,
-            hash: at + 6,
-        };
+    let code = code_of(item);
+    Kept {
+        found: true,
+        code,
+        hash: at + 6,
     }
-    kept
 }
 
 fn lookup_of(kept: Kept) -> Lookup
@@ -170,6 +167,7 @@ fn lookup_of(kept: Kept) -> Lookup
 }
 
 // One walk, which goes on past the user's account to the end of the table.
+// It carries the octets that are left and not a place, which saves an addition from one record to the next.
 fn walk(table: &[u8], user: &[u8]) -> Seen
     ensures { λ r. ⌜ r ≡ seen (now (table .entry)) (now (user .entry)) ⌝ }
 {
@@ -177,14 +175,15 @@ fn walk(table: &[u8], user: &[u8]) -> Seen
         return MALFORMED;
     }
     let mut kept = NOTHING;
-    let mut at = 0;
-    while at < table.len() {
-        let item = record_at(table, at);
+    let mut left = table;
+    while 0 < left.len() {
+        let item = first_record(left);
         if !item_good(item) {
             return MALFORMED;
         }
-        kept = keep(kept, user, at, item);
-        at = at + item.len();
+        kept = keep(kept, user, table.len() - left.len(), item);
+        let n = item.len();
+        left = &left[n..];
     }
     let lookup = lookup_of(kept);
     Seen {

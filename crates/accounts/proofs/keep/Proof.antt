@@ -11,8 +11,8 @@ keep-spec =
     tie.close
     (tie.spec
     (λ c κs. search exits)
+    (λ c. search (exits, keep-none))
     (λ c. search (exits, keep-found))
     (λ c κs. search exits)
     (λ c. search exits)
-    (λ c. search (exits, keep-here))
-    (λ c. search (exits, keep-none)))
+    (λ c. search (exits, keep-here)))

@@ -1,4 +1,3 @@
-use Prim.Native.Nat.{_-_}
 use lib.ListN.{length}
 use Rattle.octets.specs.Choice.{pick}
 use Rattle.accounts.specs.Accounts.{lookupOf}
@@ -11,14 +10,17 @@ unfolding lookupOf pick
 walk-spec =
     tie.close
     (tie.spec
-    (λ table user _ _ kept at. Walking table user (lookupOf kept) at)
-    (λ table _ _ _ _ at. length table - at)
+    (λ table user _ _ kept left. Walking table user (lookupOf kept) left)
+    (λ _ _ _ _ _ left. length left)
     (λ c. search walks)
     (λ c. search walks)
     (λ c κs. search walks)
     (λ c κs. search walks)
     (λ c. search walks)
+    (λ c. search walks)
     (λ c κs. search walks)
+    (λ c. search walks)
+    (λ c. search walks)
     (λ c. search walks)
     (λ c. search walks)
     (λ c. search walks)
