@@ -1,12 +1,24 @@
--- What this crate's private functions promise each other of stored names and replies.
+-- What this crate's private functions promise each other: of stored names, of a move's answer and reply without a state,
+-- and of the state that an answer leaves.
 use Prim.Native.Nat.{ℕ, _≤_}
 use mathlib.Core.Path.{_≡_}
-use mathlib.Core.List.{List}
+use mathlib.Core.List.{List, []}
 use lib.ListN.{length, take}
-use Rattle.octets.specs.Lists.{sized}
+use Rattle.octets.specs.Choice.{pick}
+use Rattle.octets.specs.Octets.{same}
+use Rattle.answer.specs.declared.Answer.{Answer}
+use Rattle.answer.specs.declared.Answer.the-variants.{Written, NeedsCredentials, Authenticated, Ended, Refused}
+use Rattle.answer.specs.Outcome.{Outcome, outcome, fitting}
 use Rattle.mschap.specs.Users.{userOf}
+use Rattle.packet.specs.declared.Packet.{Packet}
+use Rattle.packet.specs.Forms.{successResponse, failureResponse}
+use Rattle.peer.specs.declared.Stage.the-variants as stage
+use Rattle.peer.specs.declared.Move.{Move}
+use Rattle.peer.specs.declared.Move.the-variants.{NotTaken, WrongIdentifier, Again, Respond, Confirm, Fail, Wait, Succeed, End}
+use Rattle.peer.specs.declared.Keys.{Keys}
 use Rattle.peer.specs.declared.Peer.{Peer}
-use Rattle.peer.specs.State.{lastReply}
+use Rattle.peer.specs.State.{responseTo, digitsTo, staged, answered, responded, kept, supplied}
+use Rattle.peer.specs.Calls.{challengeIn, renewedIn, digitsIn}
 
 -- n octets of an array of at most 256 are a name
 pub record Named (octets : List ℕ) (n : ℕ) (name : List ℕ) : Type 0 where
@@ -17,13 +29,54 @@ pub record UserIn (name user : List ℕ) : Type 0 where
   pub is : user ≡ userOf name
   pub few : length user ≤ 256
 
--- 315 octets and a length store the reply w
-pub record Stored (w octets : List ℕ) (len : ℕ) : Type 0 where
-  pub is : octets ≡ sized 315 w
-  pub size : len ≡ length w
-  pub front : take len octets ≡ w
+-- ---- what a move answers and writes, by the fields that it needs: `last` is the stored reply
+-- an answer without a reply
+abbrev pub saying : ℕ → Outcome (Unit {0})
+saying k = outcome k [] tt
 
--- r is the state `next`, and the reply that it stores is w
-pub record Replies (next : Peer) (w : List ℕ) (r : Peer) : Type 0 where
-  pub is : r ≡ next
-  pub front : lastReply r ≡ w
+-- the reply w, or 20
+abbrev pub sending : List ℕ → ℕ → Outcome (Unit {0})
+sending w room = fitting room tt (outcome 0 w tt)
+
+unfoldable pub confirming : Packet → List ℕ → Keys → List ℕ → ℕ → Outcome (Unit {0})
+confirming k q keys name room =
+    pick (same (digitsIn k q) (digitsTo (keys .authenticator) (keys .own) name (keys .hash)))
+    (sending (successResponse (k .id .0)) room)
+    (saying 3)
+
+unfoldable pub answerOf : Move → Packet → List ℕ → List ℕ → Keys → List ℕ → List ℕ → ℕ → Outcome (Unit {0})
+answerOf NotTaken k q random keys name last room = saying 19
+answerOf WrongIdentifier k q random keys name last room = saying 18
+answerOf Again k q random keys name last room = sending last room
+answerOf Respond k q random keys name last room = sending (responseTo (k .id .0) (k .chapid .0) (challengeIn k q) random name (keys .hash)) room
+answerOf Confirm k q random keys name last room = confirming k q keys name room
+answerOf Fail k q random keys name last room = sending (failureResponse (k .id .0)) room
+answerOf Wait k q random keys name last room = saying 1
+answerOf Succeed k q random keys name last room = saying 2
+answerOf End k q random keys name last room = saying 3
+
+-- ---- what an answer leaves, where w is the reply that was written
+unfoldable pub repliedBy : Move → Packet → List ℕ → List ℕ → List ℕ → Peer → Peer
+repliedBy NotTaken k q random w p = p
+repliedBy WrongIdentifier k q random w p = p
+repliedBy Again k q random w p = p
+repliedBy Respond k q random w p = responded (challengeIn k q) random (k .chapid) q w p
+repliedBy Confirm k q random w p = answered stage.SuccessResponseSent q w p
+repliedBy Fail k q random w p = answered stage.FailureResponseSent q w p
+repliedBy Wait k q random w p = p
+repliedBy Succeed k q random w p = p
+repliedBy End k q random w p = p
+
+unfoldable pub leftBy : Answer → Move → Packet → List ℕ → List ℕ → List ℕ → Peer → Peer
+leftBy Written m k q random w p = repliedBy m k q random w p
+leftBy NeedsCredentials m k q random w p = kept (renewedIn k q) (k .chapid) q p
+leftBy Authenticated m k q random w p = staged stage.Success p
+leftBy Ended m k q random w p = staged stage.Failed p
+leftBy (Refused why) m k q random w p = p
+
+unfoldable pub resumedBy : Answer → List ℕ → List ℕ → List ℕ → List ℕ → Peer → Peer
+resumedBy Written name hash random w p = supplied name hash random w p
+resumedBy NeedsCredentials name hash random w p = p
+resumedBy Authenticated name hash random w p = p
+resumedBy Ended name hash random w p = p
+resumedBy (Refused why) name hash random w p = p

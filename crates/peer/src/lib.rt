@@ -5,14 +5,13 @@ ghost use Prim.Native.Nat.{_≤_};
 ghost use lib.ListN.{length, take};
 ghost use Rattle.octets.specs.Octets.{same};
 ghost use Rattle.answer.specs.Answer.{numberOf, refusalOf};
-ghost use Rattle.answer.specs.Outcome.{Does, outcome, refused, fitting};
+ghost use Rattle.answer.specs.Outcome.{Does, refused};
 ghost use Rattle.mschap.specs.Responses.{ntResponse};
 ghost use Rattle.packet.specs.Reader.{toldReading};
-ghost use Rattle.packet.specs.Forms.{successResponse, failureResponse};
-ghost use Rattle.peer.specs.Stored.{Named, UserIn, Stored, Replies};
-ghost use Rattle.peer.specs.State.{lastReply, responseTo, digitsTo, fresh, staged, answered, kept};
+ghost use Rattle.peer.specs.Stored.{Named, UserIn, saying, sending, confirming, answerOf, repliedBy, leftBy, resumedBy};
+ghost use Rattle.peer.specs.State.{responseTo, digitsTo, fresh, staged, answered, responded, kept, supplied};
 ghost use Rattle.peer.specs.Moves.{moveOf, sent, waiting, isRequest, repeats, misnumbered, turnOf};
-ghost use Rattle.peer.specs.Calls.{newOf, renewedIn, responseIn, respondedTo, responseBy, suppliedBy, respondOf, sendBare, acceptOf, concludeOf, confirmOf, failOf, waitOf, movedOf, turnIn, takenOf, readOf, stepOf, resumeOf, supplyOf, giveUpOf};
+ghost use Rattle.peer.specs.Calls.{newOf, challengeIn, renewedIn, turnIn, takenOf, readOf, stepOf, resumeOf, supplyOf, giveUpOf};
 use answer::Answer;
 use answer::ChapId;
 use answer::Identifier;
@@ -21,6 +20,7 @@ use packet::End;
 use packet::Kind;
 use packet::Packet;
 use packet::Reading;
+use writers::Written;
 
 pub enum Stage {
     Begin,
@@ -219,18 +219,19 @@ fn turn_in(stage: Stage, k: Packet, q: &[u8], last: &[u8]) -> Move
     turn_of(stage, kind, same, known)
 }
 
-// The first n octets of a name's array.
+// The first n octets.
+fn first(s: &[u8], n: u16) -> &[u8]
+    ensures { λ r. ⌜ now r ≡ take n (now (s .entry)) ⌝ }
+{
+    octets::part(s, 0, n as usize)
+}
+
+// A name of n octets in its array.
 fn named(name: &[u8], n: u16) -> &[u8]
     requires { ⌜ length (now name) ≤ 256 ⌝ }
     ensures { λ r. ⌜ Named (now (name .entry)) n (now r) ⌝ }
 {
-    octets::part(name, 0, n as usize)
-}
-
-// A reply as it is stored.
-struct Reply {
-    octets: [u8; Peer::REPLY_ROOM],
-    len: u16,
+    first(name, n)
 }
 
 // The user of a name.
@@ -243,76 +244,146 @@ fn user_in(name: &[u8]) -> &[u8]
     octets::rest(name, at)
 }
 
-fn nt_response(authenticator: [u8; 16], own: [u8; 16], user: &[u8], hash: [u8; 16]) -> [u8; 24]
+// What a Response and the string that answers it are made of, beside the name.
+struct Keys {
+    authenticator: [u8; 16],
+    own: [u8; 16],
+    hash: [u8; 16],
+}
+
+fn nt_response(keys: Keys, user: &[u8]) -> [u8; 24]
     requires { ⌜ length (now user) ≤ 256 ⌝ }
-    ensures { λ r. ⌜ r ≡ ntResponse authenticator own (now (user .entry)) hash ⌝ }
+    ensures { λ r. ⌜ r ≡ ntResponse (keys .authenticator) (keys .own) (now (user .entry)) (keys .hash) ⌝ }
 {
+    let authenticator = keys.authenticator;
+    let own = keys.own;
+    let hash = keys.hash;
     let made = mschap::nt_response(authenticator, own, user, hash);
     made.octets
 }
 
-// The Response, as it is stored.
-fn response_to(
-    id: Identifier,
-    chapid: ChapId,
-    authenticator: [u8; 16],
-    own: [u8; 16],
-    name: &[u8],
-    hash: [u8; 16],
-) -> Reply
-    requires { ⌜ length (now name) ≤ 256 ⌝ }
-    ensures { λ r. ⌜ Stored (responseTo (id .0) (chapid .0) authenticator own (now (name .entry)) hash) (r .octets) (r .len) ⌝ }
-{
-    let response = nt_response(authenticator, own, user_in(name), hash);
-    let mut octets = [0u8; Peer::REPLY_ROOM];
-    writers::write_response(id, chapid, own, response, name, &mut octets);
-    Reply {
-        octets,
-        len: (59 + name.len()) as u16,
-    }
-}
-
 // The string that answers the Response, as 40 digits.
-fn digits_to(authenticator: [u8; 16], own: [u8; 16], name: &[u8], hash: [u8; 16]) -> [u8; 40]
+fn digits_to(keys: Keys, name: &[u8]) -> [u8; 40]
     requires { ⌜ length (now name) ≤ 256 ⌝ }
-    ensures { λ r. ⌜ r ≡ digitsTo authenticator own (now (name .entry)) hash ⌝ }
+    ensures { λ r. ⌜ r ≡ digitsTo (keys .authenticator) (keys .own) (now (name .entry)) (keys .hash) ⌝ }
 {
+    let authenticator = keys.authenticator;
+    let own = keys.own;
+    let hash = keys.hash;
     let user = user_in(name);
-    let response = nt_response(authenticator, own, user, hash);
+    let response = nt_response(keys, user);
     let made = mschap::authenticator_string(hash, response, own, authenticator, user);
     let string = made.octets;
     mschap::authenticator_digits(string)
 }
 
 // Whether these digits are that string. All 40 are compared.
-fn is_right(
-    authenticator: [u8; 16],
-    own: [u8; 16],
-    name: &[u8],
-    hash: [u8; 16],
-    digits: &[u8],
-) -> bool
+fn is_right(keys: Keys, name: &[u8], digits: &[u8]) -> bool
     requires { ⌜ length (now name) ≤ 256 ⌝ }
-    ensures { λ r. ⌜ r ≡ same (now (digits .entry)) (digitsTo authenticator own (now (name .entry)) hash) ⌝ }
+    ensures { λ r. ⌜ r ≡ same (now (digits .entry)) (digitsTo (keys .authenticator) (keys .own) (now (name .entry)) (keys .hash)) ⌝ }
 {
-    let right = digits_to(authenticator, own, name, hash);
+    let right = digits_to(keys, name);
     octets::equal(digits, &right)
 }
 
-fn success_octets(id: Identifier) -> [u8; 6]
-    ensures { λ r. ⌜ r ≡ successResponse (id .0) ⌝ }
+// ---- what a move answers, and the reply that it writes
+// An answer without a reply.
+fn say(answer: Answer, reply: &mut [u8]) -> Written
+    ensures { λ r. ⌜ Does (saying (numberOf answer)) (numberOf (r .answer)) (r .n) tt (now (reply .entry)) (now (reply .exit)) ⌝ }
 {
-    let mut w = [0u8; 6];
-    writers::write_success_response(id, &mut w);
-    w
+    Written { answer, n: 0 }
 }
 
-fn failure_octets(id: Identifier) -> [u8; 6]
-    ensures { λ r. ⌜ r ≡ failureResponse (id .0) ⌝ }
+// The reply w, or 20.
+fn send(w: &[u8], reply: &mut [u8]) -> Written
+    ensures { λ r. ⌜ Does (sending (now (w .entry)) (length (now (reply .entry)))) (numberOf (r .answer)) (r .n) tt (now (reply .entry)) (now (reply .exit)) ⌝ }
 {
-    let mut w = [0u8; 6];
-    writers::write_failure_response(id, &mut w);
-    w
+    if reply.len() < w.len() {
+        return say(Answer::Refused(Refusal::NoRoom), reply);
+    }
+    octets::put_at(reply, 0, w);
+    Written {
+        answer: Answer::Written,
+        n: w.len(),
+    }
+}
+
+// The Response, or 20.
+fn send_response(
+    id: Identifier,
+    chapid: ChapId,
+    keys: Keys,
+    name: &[u8],
+    reply: &mut [u8],
+) -> Written
+    requires { ⌜ length (now name) ≤ 256 ⌝ }
+    ensures { λ r. ⌜ Does (sending (responseTo (id .0) (chapid .0) (keys .authenticator) (keys .own) (now (name .entry)) (keys .hash)) (length (now (reply .entry)))) (numberOf (r .answer)) (r .n) tt (now (reply .entry)) (now (reply .exit)) ⌝ }
+{
+    let own = keys.own;
+    let response = nt_response(keys, user_in(name));
+    writers::write_response(id, chapid, own, response, name, reply)
+}
+
+// The Response to the Challenge q.
+fn respond(
+    k: Packet,
+    q: &[u8],
+    random: [u8; 16],
+    name: &[u8],
+    hash: [u8; 16],
+    reply: &mut [u8],
+) -> Written
+    requires { ⌜ length (now name) ≤ 256 ⌝ }
+    ensures { λ r. ⌜ Does (sending (responseTo (k .id .0) (k .chapid .0) (challengeIn k (now (q .entry))) random (now (name .entry)) hash) (length (now (reply .entry)))) (numberOf (r .answer)) (r .n) tt (now (reply .entry)) (now (reply .exit)) ⌝ }
+{
+    let at = k.challenge.start;
+    let authenticator = packet::sixteen_at(q, at);
+    let keys = Keys {
+        authenticator,
+        own: random,
+        hash,
+    };
+    send_response(k.id, k.chapid, keys, name, reply)
+}
+
+// The Success Response to the right string. Another ends the login.
+fn confirm(k: Packet, q: &[u8], keys: Keys, name: &[u8], reply: &mut [u8]) -> Written
+    requires { ⌜ length (now name) ≤ 256 ⌝ }
+    ensures { λ r. ⌜ Does (confirming k (now (q .entry)) keys (now (name .entry)) (length (now (reply .entry)))) (numberOf (r .answer)) (r .n) tt (now (reply .entry)) (now (reply .exit)) ⌝ }
+{
+    let at = k.response.start;
+    if is_right(keys, name, octets::part(q, at, 40)) {
+        return writers::write_success_response(k.id, reply);
+    }
+    say(Answer::Ended, reply)
+}
+
+// name and last, the stored reply, are lent from one state.
+fn answer_to<'a>(
+    m: Move,
+    k: Packet,
+    q: &[u8],
+    random: [u8; 16],
+    keys: Keys,
+    name: &'a [u8],
+    last: &'a [u8],
+    reply: &mut [u8],
+) -> Written
+    requires { ⌜ length (now name) ≤ 256 ⌝ }
+    ensures { λ r. ⌜ Does (answerOf m k (now (q .entry)) random keys (now (name .entry)) (now (last .entry)) (length (now (reply .entry)))) (numberOf (r .answer)) (r .n) tt (now (reply .entry)) (now (reply .exit)) ⌝ }
+{
+    let hash = keys.hash;
+    match m {
+        Move::NotTaken => say(Answer::Refused(Refusal::NotTaken), reply),
+        Move::WrongIdentifier => say(Answer::Refused(Refusal::WrongIdentifier), reply),
+        Move::Again => send(last, reply),
+        Move::Respond => respond(k, q, random, name, hash, reply),
+        Move::Confirm => confirm(k, q, keys, name, reply),
+        Move::Fail => writers::write_failure_response(k.id, reply),
+        Move::Wait => say(Answer::NeedsCredentials, reply),
+        Move::Succeed => say(Answer::Authenticated, reply),
+        Move::End => say(Answer::Ended, reply),
+    }
 }
 
 impl Peer {
@@ -372,7 +443,7 @@ impl Peer {
     // The Success Response or Failure Response w to q.
     fn answered(self, stage: Stage, q: &[u8], w: &[u8]) -> Peer
         requires { ⌜ (length (now q) ≤ 1020) × (length (now w) ≤ 315) ⌝ }
-        ensures { λ r. ⌜ Replies (answered stage (now (q .entry)) (now (w .entry)) self) (now (w .entry)) r ⌝ }
+        ensures { λ r. ⌜ r ≡ answered stage (now (q .entry)) (now (w .entry)) self ⌝ }
     {
         let name = self.name;
         let hash = self.hash;
@@ -398,27 +469,20 @@ impl Peer {
         }
     }
 
-    // The Response to the Challenge q.
-    fn responded(self, k: Packet, q: &[u8], random: [u8; 16]) -> Peer
-        requires { ⌜ length (now q) ≤ 1020 ⌝ }
-        ensures { λ r. ⌜ Replies (respondedTo self k (now (q .entry)) random) (responseIn self k (now (q .entry)) random) r ⌝ }
+    // The Response w to the Challenge q.
+    fn responded(self, k: Packet, q: &[u8], random: [u8; 16], w: &[u8]) -> Peer
+        requires { ⌜ (length (now q) ≤ 1020) × (length (now w) ≤ 315) ⌝ }
+        ensures { λ r. ⌜ r ≡ responded (challengeIn k (now (q .entry))) random (k .chapid) (now (q .entry)) (now (w .entry)) self ⌝ }
     {
+        let name = self.name;
         let hash = self.hash;
-        let chapid = k.chapid;
         let at = k.challenge.start;
         let authchallenge = packet::sixteen_at(q, at);
-        let w = response_to(
-            k.id,
-            chapid,
-            authchallenge,
-            random,
-            named(&self.name, self.namelen),
-            hash,
-        );
-        let name = self.name;
-        let reply = w.octets;
+        let chapid = k.chapid;
         let mut request = [0u8; Peer::MAX_PACKET];
         octets::fill(&mut request, q);
+        let mut reply = [0u8; Peer::REPLY_ROOM];
+        octets::fill(&mut reply, w);
         Peer {
             stage: Stage::ChallengeResponseSent,
             name,
@@ -430,7 +494,7 @@ impl Peer {
             request,
             requestlen: q.len() as u16,
             reply,
-            replylen: w.len,
+            replylen: w.len() as u16,
         }
     }
 
@@ -463,7 +527,33 @@ impl Peer {
         }
     }
 
-    // ---- ends of a call
+    // New credentials, and the Response w.
+    fn supplied(self, name: &[u8], hash: [u8; 16], random: [u8; 16], w: &[u8]) -> Peer
+        requires { ⌜ (length (now name) ≤ 256) × (length (now w) ≤ 315) ⌝ }
+        ensures { λ r. ⌜ r ≡ supplied (now (name .entry)) hash random (now (w .entry)) self ⌝ }
+    {
+        let mut room = [0u8; Peer::MAX_NAME];
+        octets::fill(&mut room, name);
+        let authchallenge = self.authchallenge;
+        let chapid = self.chapid;
+        let request = self.request;
+        let mut reply = [0u8; Peer::REPLY_ROOM];
+        octets::fill(&mut reply, w);
+        Peer {
+            stage: Stage::ChallengeResponseSent,
+            name: room,
+            namelen: name.len() as u16,
+            hash,
+            authchallenge,
+            peerchallenge: random,
+            chapid,
+            request,
+            requestlen: self.requestlen,
+            reply,
+            replylen: w.len() as u16,
+        }
+    }
+
     fn refuse(self, why: Refusal, reply: &mut [u8]) -> PeerStep
         ensures { λ r. ⌜ Does (refused (refusalOf why) self) (numberOf (r .answer)) (r .n) (r .peer) (now (reply .entry)) (now (reply .exit)) ⌝ }
     {
@@ -474,131 +564,64 @@ impl Peer {
         }
     }
 
-    fn close(self, answer: Answer, stage: Stage, reply: &mut [u8]) -> PeerStep
-        ensures { λ r. ⌜ Does (outcome (numberOf answer) [] (staged stage self)) (numberOf (r .answer)) (r .n) (r .peer) (now (reply .entry)) (now (reply .exit)) ⌝ }
-    {
-        PeerStep {
-            answer,
-            n: 0,
-            peer: self.staged(stage),
-        }
-    }
-
-    // The reply that the next state stores, or 20.
-    fn send(self, next: Peer, reply: &mut [u8]) -> PeerStep
-        ensures { λ r. ⌜ Does (fitting (length (now (reply .entry))) self (outcome 0 (lastReply next) next)) (numberOf (r .answer)) (r .n) (r .peer) (now (reply .entry)) (now (reply .exit)) ⌝ }
-    {
-        let n = next.replylen as usize;
-        let w = octets::part(&next.reply, 0, n);
-        if reply.len() < w.len() {
-            return self.refuse(Refusal::NoRoom, reply);
-        }
-        octets::put_at(reply, 0, w);
-        PeerStep {
-            answer: Answer::Written,
-            n: w.len(),
-            peer: next,
-        }
-    }
-
-    // ---- the moves
-    fn respond(self, k: Packet, q: &[u8], random: [u8; 16], reply: &mut [u8]) -> PeerStep
-        requires { ⌜ length (now q) ≤ 1020 ⌝ }
-        ensures { λ r. ⌜ Does (respondOf self k (now (q .entry)) random (length (now (reply .entry)))) (numberOf (r .answer)) (r .n) (r .peer) (now (reply .entry)) (now (reply .exit)) ⌝ }
-    {
-        let next = self.responded(k, q, random);
-        self.send(next, reply)
-    }
-
-    fn send_bare(self, stage: Stage, q: &[u8], w: &[u8], reply: &mut [u8]) -> PeerStep
+    // ---- a packet
+    // The state after the reply w. A repeat changes nothing; no more than four moves write a reply.
+    fn replied(self, m: Move, k: Packet, q: &[u8], random: [u8; 16], w: &[u8]) -> Peer
         requires { ⌜ (length (now q) ≤ 1020) × (length (now w) ≤ 315) ⌝ }
-        ensures { λ r. ⌜ Does (sendBare self stage (now (q .entry)) (now (w .entry)) (length (now (reply .entry)))) (numberOf (r .answer)) (r .n) (r .peer) (now (reply .entry)) (now (reply .exit)) ⌝ }
-    {
-        let next = self.answered(stage, q, w);
-        self.send(next, reply)
-    }
-
-    fn accept(self, k: Packet, q: &[u8], reply: &mut [u8]) -> PeerStep
-        requires { ⌜ length (now q) ≤ 1020 ⌝ }
-        ensures { λ r. ⌜ Does (acceptOf self k (now (q .entry)) (length (now (reply .entry)))) (numberOf (r .answer)) (r .n) (r .peer) (now (reply .entry)) (now (reply .exit)) ⌝ }
-    {
-        let w = success_octets(k.id);
-        self.send_bare(Stage::SuccessResponseSent, q, &w, reply)
-    }
-
-    fn conclude(self, right: bool, k: Packet, q: &[u8], reply: &mut [u8]) -> PeerStep
-        requires { ⌜ length (now q) ≤ 1020 ⌝ }
-        ensures { λ r. ⌜ Does (concludeOf right self k (now (q .entry)) (length (now (reply .entry)))) (numberOf (r .answer)) (r .n) (r .peer) (now (reply .entry)) (now (reply .exit)) ⌝ }
-    {
-        if right {
-            return self.accept(k, q, reply);
-        }
-        self.close(Answer::Ended, Stage::Failed, reply)
-    }
-
-    fn confirm(self, k: Packet, q: &[u8], reply: &mut [u8]) -> PeerStep
-        requires { ⌜ length (now q) ≤ 1020 ⌝ }
-        ensures { λ r. ⌜ Does (confirmOf self k (now (q .entry)) (length (now (reply .entry)))) (numberOf (r .answer)) (r .n) (r .peer) (now (reply .entry)) (now (reply .exit)) ⌝ }
-    {
-        let authchallenge = self.authchallenge;
-        let peerchallenge = self.peerchallenge;
-        let hash = self.hash;
-        let at = k.response.start;
-        let right = is_right(
-            authchallenge,
-            peerchallenge,
-            named(&self.name, self.namelen),
-            hash,
-            octets::part(q, at, 40),
-        );
-        self.conclude(right, k, q, reply)
-    }
-
-    fn fail(self, k: Packet, q: &[u8], reply: &mut [u8]) -> PeerStep
-        requires { ⌜ length (now q) ≤ 1020 ⌝ }
-        ensures { λ r. ⌜ Does (failOf self k (now (q .entry)) (length (now (reply .entry)))) (numberOf (r .answer)) (r .n) (r .peer) (now (reply .entry)) (now (reply .exit)) ⌝ }
-    {
-        let w = failure_octets(k.id);
-        self.send_bare(Stage::FailureResponseSent, q, &w, reply)
-    }
-
-    fn wait(self, k: Packet, q: &[u8], reply: &mut [u8]) -> PeerStep
-        requires { ⌜ length (now q) ≤ 1020 ⌝ }
-        ensures { λ r. ⌜ Does (waitOf self k (now (q .entry))) (numberOf (r .answer)) (r .n) (r .peer) (now (reply .entry)) (now (reply .exit)) ⌝ }
-    {
-        PeerStep {
-            answer: Answer::NeedsCredentials,
-            n: 0,
-            peer: self.kept(k, q),
-        }
-    }
-
-    fn moved(self, m: Move, k: Packet, q: &[u8], random: [u8; 16], reply: &mut [u8]) -> PeerStep
-        requires { ⌜ length (now q) ≤ 1020 ⌝ }
-        ensures { λ r. ⌜ Does (movedOf m self k (now (q .entry)) random (length (now (reply .entry)))) (numberOf (r .answer)) (r .n) (r .peer) (now (reply .entry)) (now (reply .exit)) ⌝ }
+        ensures { λ r. ⌜ r ≡ repliedBy m k (now (q .entry)) random (now (w .entry)) self ⌝ }
     {
         match m {
-            Move::NotTaken => self.refuse(Refusal::NotTaken, reply),
-            Move::WrongIdentifier => self.refuse(Refusal::WrongIdentifier, reply),
-            Move::Again => self.send(self, reply),
-            Move::Respond => self.respond(k, q, random, reply),
-            Move::Confirm => self.confirm(k, q, reply),
-            Move::Fail => self.fail(k, q, reply),
-            Move::Wait => self.wait(k, q, reply),
-            Move::Succeed => self.close(Answer::Authenticated, Stage::Success, reply),
-            Move::End => self.close(Answer::Ended, Stage::Failed, reply),
+            Move::NotTaken => self,
+            Move::WrongIdentifier => self,
+            Move::Again => self,
+            Move::Respond => self.responded(k, q, random, w),
+            Move::Confirm => self.answered(Stage::SuccessResponseSent, q, w),
+            Move::Fail => self.answered(Stage::FailureResponseSent, q, w),
+            Move::Wait => self,
+            Move::Succeed => self,
+            Move::End => self,
         }
     }
 
-    // ---- a packet
+    // The state after an answer.
+    fn after(self, answer: Answer, m: Move, k: Packet, q: &[u8], random: [u8; 16], w: &[u8]) -> Peer
+        requires { ⌜ (length (now q) ≤ 1020) × (length (now w) ≤ 315) ⌝ }
+        ensures { λ r. ⌜ r ≡ leftBy answer m k (now (q .entry)) random (now (w .entry)) self ⌝ }
+    {
+        match answer {
+            Answer::Written => self.replied(m, k, q, random, w),
+            Answer::NeedsCredentials => self.kept(k, q),
+            Answer::Authenticated => self.staged(Stage::Success),
+            Answer::Ended => self.staged(Stage::Failed),
+            Answer::Refused(why) => self,
+        }
+    }
+
+    // The turn, its answer, and the state after it. The fields are lent here alone, and the state is made when all is
+    // written: so it is copied once in and once out.
     fn taken(self, k: Packet, q: &[u8], random: [u8; 16], reply: &mut [u8]) -> PeerStep
         requires { ⌜ length (now q) ≤ 1020 ⌝ }
         ensures { λ r. ⌜ Does (takenOf self k (now (q .entry)) random (length (now (reply .entry)))) (numberOf (r .answer)) (r .n) (r .peer) (now (reply .entry)) (now (reply .exit)) ⌝ }
     {
         let stage = self.stage;
-        let last = octets::part(&self.request, 0, self.requestlen as usize);
-        let m = turn_in(stage, k, q, last);
-        self.moved(m, k, q, random, reply)
+        let authenticator = self.authchallenge;
+        let own = self.peerchallenge;
+        let hash = self.hash;
+        let keys = Keys {
+            authenticator,
+            own,
+            hash,
+        };
+        let m = turn_in(stage, k, q, first(&self.request, self.requestlen));
+        let last = first(&self.reply, self.replylen);
+        let name = named(&self.name, self.namelen);
+        let w = answer_to(m, k, q, random, keys, name, last, reply);
+        let answer = w.answer;
+        PeerStep {
+            answer,
+            n: w.n,
+            peer: self.after(answer, m, k, q, random, octets::part(reply, 0, w.n)),
+        }
     }
 
     fn take_packet(self, k: Packet, s: &[u8], random: [u8; 16], reply: &mut [u8]) -> PeerStep
@@ -627,31 +650,23 @@ impl Peer {
     }
 
     // ---- the two calls of WAITING
-    fn supplied(self, name: &[u8], hash: [u8; 16], random: [u8; 16]) -> Peer
-        requires { ⌜ length (now name) ≤ 256 ⌝ }
-        ensures { λ r. ⌜ Replies (suppliedBy self (now (name .entry)) hash random) (responseBy self (now (name .entry)) hash random) r ⌝ }
+    fn resumed(
+        self,
+        answer: Answer,
+        name: &[u8],
+        hash: [u8; 16],
+        random: [u8; 16],
+        w: &[u8],
+    ) -> Peer
+        requires { ⌜ (length (now name) ≤ 256) × (length (now w) ≤ 315) ⌝ }
+        ensures { λ r. ⌜ r ≡ resumedBy answer (now (name .entry)) hash random (now (w .entry)) self ⌝ }
     {
-        let last = octets::part(&self.request, 0, self.requestlen as usize);
-        let id = octets::octet(last, 1);
-        let chapid = self.chapid;
-        let authchallenge = self.authchallenge;
-        let w = response_to(Identifier(id), chapid, authchallenge, random, name, hash);
-        let mut room = [0u8; Peer::MAX_NAME];
-        octets::fill(&mut room, name);
-        let request = self.request;
-        let reply = w.octets;
-        Peer {
-            stage: Stage::ChallengeResponseSent,
-            name: room,
-            namelen: name.len() as u16,
-            hash,
-            authchallenge,
-            peerchallenge: random,
-            chapid,
-            request,
-            requestlen: self.requestlen,
-            reply,
-            replylen: w.len,
+        match answer {
+            Answer::Written => self.supplied(name, hash, random, w),
+            Answer::NeedsCredentials => self,
+            Answer::Authenticated => self,
+            Answer::Ended => self,
+            Answer::Refused(why) => self,
         }
     }
 
@@ -659,8 +674,22 @@ impl Peer {
         requires { ⌜ length (now name) ≤ 256 ⌝ }
         ensures { λ r. ⌜ Does (resumeOf self (now (name .entry)) hash random (length (now (reply .entry)))) (numberOf (r .answer)) (r .n) (r .peer) (now (reply .entry)) (now (reply .exit)) ⌝ }
     {
-        let next = self.supplied(name, hash, random);
-        self.send(next, reply)
+        let chapid = self.chapid;
+        let authenticator = self.authchallenge;
+        let keys = Keys {
+            authenticator,
+            own: random,
+            hash,
+        };
+        let last = first(&self.request, self.requestlen);
+        let id = octets::octet(last, 1);
+        let w = send_response(Identifier(id), chapid, keys, name, reply);
+        let answer = w.answer;
+        PeerStep {
+            answer,
+            n: w.n,
+            peer: self.resumed(answer, name, hash, random, octets::part(reply, 0, w.n)),
+        }
     }
 
     pub fn supply(self, name: &[u8], hash: [u8; 16], random: [u8; 16], reply: &mut [u8]) -> PeerStep

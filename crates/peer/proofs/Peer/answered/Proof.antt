@@ -1,12 +1,10 @@
-use mathlib.Core.Path.{refl}
-use Rattle.peer.proofs.Replies.{stored}
-use Rattle.peer.specs.State.{lastReply, answered}
+use Rattle.peer.specs.State.{answered}
 use borrow.Author.Needs.{needs}
 use Rattle.peer.proofs.Peer.answered.Statement.{statement}
 use Rattle.peer.proofs.Peer.answered.Tie as tie
 
 pub answered-spec : {M : Type 1} → statement M
-unfolding answered lastReply
+unfolding answered
 answered-spec =
     tie.close
     (tie.spec
@@ -16,4 +14,4 @@ answered-spec =
     (λ c κs. search needs)
     (λ c. search needs)
     (λ c. search needs)
-    (λ c. record { is = cc; front = stored _ _ _ (c .before .fill2 .ensures) refl (search needs) .front }))
+    (λ c. cc))

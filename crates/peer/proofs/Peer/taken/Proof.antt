@@ -1,18 +1,32 @@
-use Rattle.answer.proofs.Outcomes.{does-by}
-use Rattle.peer.specs.State.{lastRequest}
-use Rattle.peer.specs.Calls.{takenOf}
+use Prim.Native.Nat.{_≤_}
+use mathlib.Core.Path.{_≡_}
+use denote.Ref.{now}
+use lib.ListN.{length}
+use Rattle.peer.proofs.Replies.{taken-so, cut-short, answer-short}
 use borrow.Author.Needs.{needs}
 use Rattle.peer.proofs.Peer.taken.Statement.{statement}
 use Rattle.peer.proofs.Peer.taken.Tie as tie
 
+sixteen : (s : tie.Start) → length (s .args .random) ≡ 16
+sixteen s = search needs
+
+within : (s : tie.Start) → length (now (s .args .q)) ≤ 1020
+within s = s .pre
+
 pub taken-spec : {M : Type 1} → statement M
-unfolding takenOf lastRequest
 taken-spec =
     tie.close
     (tie.spec
+    (λ c κs. search needs)
+    (λ c κs. search needs)
+    (λ c κs. search needs)
+    (λ c κs. search needs)
+    (λ c κs. search needs)
+    (λ c κs. search needs)
+    (λ c κs. (search (within), search (needs, cut-short, answer-short, sixteen)))
     (λ c. search needs)
-    (λ c κs. search needs)
-    (λ c κs. search needs)
-    (λ c κs. search needs)
-    (λ c. search needs)
-    (λ c. does-by _ _ _ _ _ _ _ (c .before .before .moved .ensures) (cc)))
+    (λ c.
+    let x = c .before .before .before .before .before in
+    let y = x .before .before .before .before .before in
+    let z = y .before .before .before .before in
+    taken-so _ _ _ _ _ _ _ _ _ _ _ _ _ _ (z .before .first .ensures) (z .turn-in .ensures) (x .before .before .named .ensures) (y .first2 .ensures) (x .answer-to .ensures) (c .before .part .ensures) (c .after .ensures)))

@@ -1,13 +1,13 @@
 use Rattle.answer.proofs.Outcomes.{does}
-use Rattle.peer.specs.Calls.{movedOf, againOf}
-use Rattle.octets.proofs.Exits.{told-back-6}
+use Rattle.peer.specs.Stored.{answerOf}
+use Rattle.peer.proofs.Replies.{answer-told, bare-sent}
 use borrow.Author.Needs.{needs}
-use Rattle.peer.proofs.Peer.moved.Statement.{statement}
-use Rattle.peer.proofs.Peer.moved.Tie as tie
+use Rattle.peer.proofs.answer_to.Statement.{statement}
+use Rattle.peer.proofs.answer_to.Tie as tie
 
-pub moved-spec : {M : Type 1} → statement M
-unfolding movedOf againOf
-moved-spec =
+pub answer-to-spec : {M : Type 1} → statement M
+unfolding answerOf
+answer-to-spec =
     tie.close
     (tie.spec
     (λ c. search needs)
@@ -29,20 +29,20 @@ moved-spec =
     (λ c. search needs)
     (λ c κs. search needs)
     (λ c. search needs)
-    (λ c. search (does, told-back-6 movedOf))
+    (λ c. search (does, answer-told, bare-sent))
     (λ c. search needs)
-    (λ c. search (does, told-back-6 movedOf))
+    (λ c. search (does, answer-told, bare-sent))
     (λ c. search needs)
-    (λ c. search (does, told-back-6 movedOf))
+    (λ c. search (does, answer-told, bare-sent))
     (λ c. search needs)
-    (λ c. search (does, told-back-6 movedOf))
+    (λ c. search (does, answer-told, bare-sent))
     (λ c. search needs)
-    (λ c. search (does, told-back-6 movedOf))
+    (λ c. search (does, answer-told, bare-sent))
     (λ c. search needs)
-    (λ c. search (does, told-back-6 movedOf))
+    (λ c. search (does, answer-told, bare-sent))
     (λ c. search needs)
-    (λ c. search (does, told-back-6 movedOf))
+    (λ c. search (does, answer-told, bare-sent))
     (λ c. search needs)
-    (λ c. search (does, told-back-6 movedOf))
+    (λ c. search (does, answer-told, bare-sent))
     (λ c. search needs)
-    (λ c. search (does, told-back-6 movedOf)))
+    (λ c. search (does, answer-told, bare-sent)))

@@ -1,0 +1,25 @@
+use Rattle.peer.specs.Stored.{leftBy}
+use Rattle.peer.proofs.Replies.{left-told}
+use borrow.Author.Needs.{needs}
+use Rattle.peer.proofs.Peer.after.Statement.{statement}
+use Rattle.peer.proofs.Peer.after.Tie as tie
+
+pub after-spec : {M : Type 1} → statement M
+unfolding leftBy
+after-spec =
+    tie.close
+    (tie.spec
+    (λ c. search needs)
+    (λ c κs. search needs)
+    (λ c. search needs)
+    (λ c κs. search needs)
+    (λ c. search needs)
+    (λ c κs. search needs)
+    (λ c. search needs)
+    (λ c κs. search needs)
+    (λ c. search needs)
+    (λ c. search (needs, left-told))
+    (λ c. search (needs, left-told))
+    (λ c. search (needs, left-told))
+    (λ c. search (needs, left-told))
+    (λ c. search (needs, left-told)))
