@@ -77,7 +77,8 @@ fn code_of(item: &[u8]) -> u16
     (low as u16) + (high as u16) * 256
 }
 
-fn is_code(code: u16) -> bool
+// Whether an account may have this code.
+pub fn is_code(code: u16) -> bool
     ensures { λ r. ⌜ r ≡ isCode code ⌝ }
 {
     match code {

@@ -4,7 +4,6 @@ ghost use Prim.Native.Nat.{_+_, _≤_};
 ghost use lib.ListN.{length, take, drop};
 ghost use Rattle.octets.specs.Lists.{cells, over, Appended};
 ghost use Rattle.octets.specs.Octets.{unhexAt};
-ghost use Rattle.accounts.specs.Accounts.{isCode};
 ghost use Rattle.roster.specs.Account.{accountHead, accountRecord, recordFor, Holds};
 ghost use Rattle.roster.specs.Lines.{upto, before, after, has, trimmed, hexSecret, spelt, secretOf, codeIn, codeAfter, noEntry, entryWith, entryOf};
 ghost use Rattle.roster.specs.Made.{isAccount, isFault, takenOf, Makes, Told};
@@ -60,19 +59,6 @@ pub struct Made {
 
 // ---- records
 
-fn is_code(code: u16) -> bool
-    ensures { λ r. ⌜ r ≡ isCode code ⌝ }
-{
-    match code {
-        0 => true,
-        646 => true,
-        647 => true,
-        648 => true,
-        649 => true,
-        _ => false,
-    }
-}
-
 fn head_of(l: u16, code: u16) -> [u8; 6]
     ensures { λ r. ⌜ r ≡ accountHead l code ⌝ }
 {
@@ -113,7 +99,7 @@ fn record_of(code: u16, hash: [u8; 16], name: &[u8]) -> Record
 fn record_for(code: u16, hash: [u8; 16], name: &[u8]) -> Record
     ensures { λ r. ⌜ Holds (recordFor code hash (now (name .entry))) (r .octets) (r .len) ⌝ }
 {
-    if !is_code(code) {
+    if !accounts::is_code(code) {
         return Record {
             octets: [0u8; 278],
             len: 0,
@@ -301,7 +287,7 @@ fn entry_with(s: &[u8], n: usize) -> Entry
 {
     let rest = field_after(s, 9);
     let code = code_after(rest);
-    if !is_code(code) {
+    if !accounts::is_code(code) {
         return no_entry(Line::BadCode);
     }
     let made = secret_of(field_before(rest, 9));
