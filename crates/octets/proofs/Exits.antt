@@ -134,10 +134,6 @@ told-4 {A} f a b x y z r e h = h ∙ sym (ap (λ (w : A). f w x y z) e)
 pub told-5 : {A B C D E F : Type 0} (f : A → B → C → D → E → F) (a b : A) (x : B) (y : C) (z : D) (u : E) (r : F) → a ≡ b → r ≡ f b x y z u → r ≡ f a x y z u
 told-5 {A} f a b x y z u r e h = h ∙ sym (ap (λ (w : A). f w x y z u) e)
 
--- the definition's side first, as `does-by` asks
-pub told-back-6 : {A B C D E F G : Type 0} (f : A → B → C → D → E → F → G) (a b : A) (x : B) (y : C) (z : D) (u : E) (v : F) (r : G) → a ≡ b → f b x y z u v ≡ r → f a x y z u v ≡ r
-told-back-6 {A} f a b x y z u v r e h = ap (λ (w : A). f w x y z u v) e ∙ h
-
 pub ruleset tests = (pick-true, pick-false, lt-ltb, le-ltb, le-leb, lt-leb, eq-eqb, ne-eqb)
 
 -- in the definition's order, with calls

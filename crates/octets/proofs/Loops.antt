@@ -8,9 +8,8 @@ use lib.ListN.{length, getD, take, set, length-set}
 use lib.Seq.{take-suc-set, take-all, paste, paste-zero, paste-suc, take-length}
 use borrow.Author.Needs.{needs}
 use borrow.Author.Tests.{le-leb, lt-leb}
-use Rattle.octets.specs.Lists.{cells, sized, pasted, put, turns}
+use Rattle.octets.specs.Lists.{cells, pasted, put, turns}
 use Rattle.octets.proofs.Exits.{pick-true, pick-false, gave-true, gave-false}
-use Rattle.octets.proofs.Lists.{sized-own}
 
 -- ---- filling: i elements of dst, n long, are f's
 pub record Filled (n : ℕ) (f : ℕ → ℕ) (dst : List ℕ) (i : ℕ) : Type 0 where
@@ -36,11 +35,6 @@ pub fill-done : {n : ℕ} {f : ℕ → ℕ} {dst : List ℕ} {i : ℕ} → Fille
 fill-done {n} {f} {dst} {i} p h =
     let e : i ≡ n = omega arith in
     sym (take-all i dst (omega arith)) ∙ p .front ∙ ap (λ (k : ℕ). cells k f) e
-
--- all of them are those of the list l
-pub fill-own : {n : ℕ} {l dst : List ℕ} {i : ℕ} → Filled n (λ k. getD l k 0) dst i → n ≤ i → length l ≡ n → dst ≡ l
-unfolding sized
-fill-own {n} {l} p h e = fill-done p h ∙ sized-own n l e
 
 -- ---- filling a front: i of the first n elements of dst, which has room for more, are f's
 pub record Fronted (room n : ℕ) (f : ℕ → ℕ) (dst : List ℕ) (i : ℕ) : Type 0 where

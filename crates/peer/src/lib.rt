@@ -650,6 +650,7 @@ impl Peer {
     }
 
     // ---- the two calls of WAITING
+    // The state after the answer to a supply: the Response w was written, or nothing changes.
     fn resumed(
         self,
         answer: Answer,
