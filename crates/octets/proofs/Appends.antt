@@ -3,14 +3,14 @@ use Prim.Native.Nat.{ℕ, _+_, _-_, _≤_, _<_}
 use mathlib.Core.Path.{_≡_, refl, sym, ap, _∙_}
 use mathlib.Core.List.{List, [], _++_, append-assoc, append-nil}
 use native.Mathlib.Omega.{arith}
-use lib.ListN.{length, getD, take, drop, replicate, length-append, length-drop, length-replicate, getD-replicate, List·getD-append, List·getD-eq-default}
-use lib.Seq.{length-take-le, drop-drop, getD-drop, getD-append-add, ext-getD}
+use lib.ListN.{length, take, drop, length-append, length-drop}
+use lib.Seq.{length-take-le, drop-drop}
 use borrow.Author.Needs.{needs}
 use borrow.Author.Tests.{le-leb, lt-leb}
-use Rattle.octets.specs.Lists.{cells, sized, over, put, nextAt, Appended}
-use Rattle.octets.proofs.Exits.{pick-true, pick-false, below}
+use Rattle.octets.specs.Lists.{cells, over, put, nextAt, Appended}
+use Rattle.octets.proofs.Exits.{pick-true, pick-false}
 use Rattle.octets.proofs.Loops.{put-longer, put-past}
-use Rattle.octets.proofs.Lists.{length-cells, length-sized, getD-sized, put-fits, put-over, put-front}
+use Rattle.octets.proofs.Lists.{length-cells, put-fits, put-over, put-front}
 
 next-fits : (d s : List ℕ) (i : ℕ) → i + length s ≤ length d → nextAt d i s ≡ i + length s
 unfolding nextAt
@@ -90,22 +90,3 @@ pub laid-done : {q old : List ℕ} {n n′ : ℕ} {l l′ v : List ℕ} → Appe
 laid-done {q} {old} {n} {n′} {l} {l′} {v} a p =
     let p′ : Laid q old n l (v ++ []) = rw (append-nil v) p in
     laid-all q old l′ n′ (laid-more a p′)
-
--- ---- zeros with s over their front are s, filled up by zeros
-pub over-zeros : (s : List ℕ) (n : ℕ) → length s ≤ n → over s (replicate n 0) ≡ sized n s
-over-zeros s n h =
-    let zeros : List ℕ = replicate n 0 in
-    let z : length zeros ≡ n = length-replicate n 0 in
-    let e : length (over s zeros) ≡ n = omega (arith, length-append s (drop (length s) zeros), length-drop (length s) zeros) in
-    ext-getD 0 (over s zeros) (sized n s) (e ∙ sym (length-sized n s))
-    (λ k l.
-    let m : k < n = rw e at l in
-    below k (length s)
-    (λ a. List·getD-append s (drop (length s) zeros) 0 k a ∙ sym (getD-sized n s k m))
-    (λ b.
-    let y : length s + (k - length s) ≡ k = omega arith in
-    ap (λ (i : ℕ). getD (over s zeros) i 0) (sym y)
-    ∙ getD-append-add s (drop (length s) zeros) (k - length s) 0
-    ∙ getD-drop (length s) zeros (k - length s) 0
-    ∙ rw y (getD-replicate n k 0 0 m)
-    ∙ sym (getD-sized n s k m ∙ List·getD-eq-default s 0 b)))

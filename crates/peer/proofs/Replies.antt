@@ -21,7 +21,7 @@ use Rattle.answer.proofs.Outcomes.{does-by}
 use Rattle.packet.specs.declared.Packet.{Packet}
 use Rattle.packet.specs.Forms.{responsePacket, successResponse, failureResponse}
 use Rattle.packet.proofs.Sizes.{length-responsePacket}
-use Rattle.writers.specs.Writers.{writing, writeResponse}
+use Rattle.writers.specs.Writers.{sends, writing, writeResponse}
 use Rattle.writers.proofs.Writing.{writing-so}
 use Rattle.mschap.specs.declared.User.{User}
 use Rattle.mschap.specs.declared.Authenticator.{Authenticator}
@@ -34,7 +34,7 @@ use Rattle.peer.specs.declared.Move.{Move}
 use Rattle.peer.specs.declared.Move.the-variants.{NotTaken, WrongIdentifier, Again, Respond, Confirm, Fail, Wait, Succeed, End}
 use Rattle.peer.specs.declared.Keys.{Keys}
 use Rattle.peer.specs.declared.Peer.{Peer}
-use Rattle.peer.specs.Stored.{Named, UserIn, saying, sending, confirming, answerOf, repliedBy, leftBy, resumedBy}
+use Rattle.peer.specs.Stored.{Named, UserIn, saying, confirming, answerOf, repliedBy, leftBy, resumedBy}
 use Rattle.peer.specs.State.{nameOf, lastRequest, lastReply, lastId, rightDigits, digitsTo, responseTo}
 use Rattle.peer.specs.Calls.{digitsIn, againOf, responseIn, respondedTo, respondOf, sendBare, acceptOf, concludeOf, confirmOf, failOf, waitOf, movedOf, turnIn, takenOf, responseBy, suppliedBy, resumeOf}
 
@@ -58,16 +58,16 @@ digits-by keys name user response made r u e d f =
     f ∙ ap digitsOf (authenticator-octets made (keys .hash) response (keys .own) (keys .authenticator) user d (u .few)) ∙ rw (e, u .is)
 
 -- ---- what the writers write goes out, or 20
-pub response-sent : (id chapid : ℕ) (keys : Keys) (name user response before after : List ℕ) (k n : ℕ) → length (keys .own) ≡ 16 → length name ≤ 256 → UserIn name user → response ≡ ntResponse (keys .authenticator) (keys .own) user (keys .hash) → Does (writeResponse id chapid (keys .own) response name (length before)) k n tt before after → Does (sending (responseTo id chapid (keys .authenticator) (keys .own) name (keys .hash)) (length before)) k n tt before after
+pub response-sent : (id chapid : ℕ) (keys : Keys) (name user response before after : List ℕ) (k n : ℕ) → length (keys .own) ≡ 16 → length name ≤ 256 → UserIn name user → response ≡ ntResponse (keys .authenticator) (keys .own) user (keys .hash) → Does (writeResponse id chapid (keys .own) response name (length before)) k n tt before after → Does (sends (length before) (responseTo id chapid (keys .authenticator) (keys .own) name (keys .hash))) k n tt before after
 unfolding responseTo
 response-sent id chapid keys name user response before after k n s h u e d =
     let q : List ℕ = responsePacket id chapid (keys .own) response name in
     let l : length q ≡ 59 + length name = length-responsePacket id chapid (keys .own) response name s (ap length e ∙ length-nt-response (keys .authenticator) (keys .own) user (keys .hash)) in
     let same : response ≡ ntResponse (keys .authenticator) (keys .own) (userOf name) (keys .hash) = e ∙ ap (λ (x : List ℕ). ntResponse (keys .authenticator) (keys .own) x (keys .hash)) (u .is) in
-    let sent = does-by (sending q (length before)) _ k n tt before after d (sym (writing-so (leb (length name) 256) (length before) q (le-leb _ _ h) (omega arith))) in
+    let sent = does-by (sends (length before) q) _ k n tt before after d (sym (writing-so (leb (length name) 256) (length before) q (le-leb _ _ h) (omega arith))) in
     rw same at sent
 
-pub bare-sent : (q : List ℕ) (room : ℕ) → length q ≡ 6 → sending q room ≡ writing true room q
+pub bare-sent : (q : List ℕ) (room : ℕ) → length q ≡ 6 → sends room q ≡ writing true room q
 bare-sent q room e = sym (writing-so true room q refl (omega arith))
 
 pub confirm-so : (k : Packet) (q : List ℕ) (keys : Keys) (name : List ℕ) (room : ℕ) (right : Bool) (digits : List ℕ) → digits ≡ take 40 (drop (k .response .start) q) → right ≡ same digits (digitsTo (keys .authenticator) (keys .own) name (keys .hash)) → right ≡ true → confirming k q keys name room ≡ writing true room (successResponse (k .id .0))
@@ -91,11 +91,11 @@ pub resumed-told : (a b : Answer) (name hash random w : List ℕ) (p r : Peer) �
 resumed-told a b name hash random w p r e h = h ∙ sym (ap (λ (x : Answer). resumedBy x name hash random w p) e)
 
 -- ---- no reply is longer than its place in the state
-sent-short : (w : List ℕ) (room : ℕ) → length w ≤ 315 → length (sending w room .octets) ≤ 315
+sent-short : (w : List ℕ) (room : ℕ) → length w ≤ 315 → length (sends room w .octets) ≤ 315
 unfolding fitting
 sent-short w room h = arms (λ (o : Outcome (Unit {0})). length (o .octets) ≤ 315) _ (omega arith) h
 
-pub response-short : (id chapid : ℕ) (authenticator own name hash : List ℕ) (room : ℕ) → length own ≡ 16 → length name ≤ 256 → length (sending (responseTo id chapid authenticator own name hash) room .octets) ≤ 315
+pub response-short : (id chapid : ℕ) (authenticator own name hash : List ℕ) (room : ℕ) → length own ≡ 16 → length name ≤ 256 → length (sends room (responseTo id chapid authenticator own name hash) .octets) ≤ 315
 response-short id chapid authenticator own name hash room s h =
     sent-short _ room (omega (arith, length-response-to id chapid authenticator own name hash s))
 
@@ -129,7 +129,7 @@ unfolding pick
 said-pick true x y u v e f = e
 said-pick false x y u v e f = f
 
-said-fits : (room : ℕ) (p next : Peer) (w : List ℕ) → sending w room ≡ said (fitting room p (outcome 0 w next))
+said-fits : (room : ℕ) (p next : Peer) (w : List ℕ) → sends room w ≡ said (fitting room p (outcome 0 w next))
 unfolding fitting
 said-fits room p next w = said-pick _ _ _ _ _ refl refl
 
@@ -186,7 +186,7 @@ module _ (a : Answer) (n : ℕ) (before after : List ℕ) where
       let d′ : Said (movedOf m p k q random (length before)) = rw (answer-so m p k q random (length before)) at (rw (e .is, l) at d) in
       rw (← f, ← t) (whole _ r d′ (s ∙ ap (λ (v : List ℕ). leftBy a m k q random v p) c ∙ left-so m p k q random (length before) d′))
 
-  pub resume-so : (p : Peer) (name hash random last w : List ℕ) (id : ℕ) (r : Peer) → last ≡ take (p .requestlen) (p .request) → id ≡ getD last 1 0 → Does (sending (responseTo id (p .chapid .0) (p .authchallenge) random name hash) (length before)) (numberOf a) n tt before after → w ≡ take n after → r ≡ resumedBy a name hash random w p → Does (resumeOf p name hash random (length before)) (numberOf a) n r before after
+  pub resume-so : (p : Peer) (name hash random last w : List ℕ) (id : ℕ) (r : Peer) → last ≡ take (p .requestlen) (p .request) → id ≡ getD last 1 0 → Does (sends (length before) (responseTo id (p .chapid .0) (p .authchallenge) random name hash)) (numberOf a) n tt before after → w ≡ take n after → r ≡ resumedBy a name hash random w p → Does (resumeOf p name hash random (length before)) (numberOf a) n r before after
   unfolding resumeOf suppliedBy responseBy lastId lastRequest resumedBy
   resume-so p name hash random last w id r l i d c s =
       let d′ : Said (resumeOf p name hash random (length before)) = rw (said-fits (length before) p (suppliedBy p name hash random) (responseBy p name hash random)) at (rw (i, l) at d) in

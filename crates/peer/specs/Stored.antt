@@ -8,10 +8,11 @@ use Rattle.octets.specs.Choice.{pick}
 use Rattle.octets.specs.Octets.{same}
 use Rattle.answer.specs.declared.Answer.{Answer}
 use Rattle.answer.specs.declared.Answer.the-variants.{Written, NeedsCredentials, Authenticated, Ended, Refused}
-use Rattle.answer.specs.Outcome.{Outcome, outcome, fitting}
+use Rattle.answer.specs.Outcome.{Outcome, outcome}
 use Rattle.mschap.specs.Users.{userOf}
 use Rattle.packet.specs.declared.Packet.{Packet}
 use Rattle.packet.specs.Forms.{successResponse, failureResponse}
+use Rattle.writers.specs.Writers.{sends}
 use Rattle.peer.specs.declared.Stage.the-variants as stage
 use Rattle.peer.specs.declared.Move.{Move}
 use Rattle.peer.specs.declared.Move.the-variants.{NotTaken, WrongIdentifier, Again, Respond, Confirm, Fail, Wait, Succeed, End}
@@ -34,23 +35,19 @@ pub record UserIn (name user : List ℕ) : Type 0 where
 abbrev pub saying : ℕ → Outcome (Unit {0})
 saying k = outcome k [] tt
 
--- the reply w, or 20
-abbrev pub sending : List ℕ → ℕ → Outcome (Unit {0})
-sending w room = fitting room tt (outcome 0 w tt)
-
 unfoldable pub confirming : Packet → List ℕ → Keys → List ℕ → ℕ → Outcome (Unit {0})
 confirming k q keys name room =
     pick (same (digitsIn k q) (digitsTo (keys .authenticator) (keys .own) name (keys .hash)))
-    (sending (successResponse (k .id .0)) room)
+    (sends room (successResponse (k .id .0)))
     (saying 3)
 
 unfoldable pub answerOf : Move → Packet → List ℕ → List ℕ → Keys → List ℕ → List ℕ → ℕ → Outcome (Unit {0})
 answerOf NotTaken k q random keys name last room = saying 19
 answerOf WrongIdentifier k q random keys name last room = saying 18
-answerOf Again k q random keys name last room = sending last room
-answerOf Respond k q random keys name last room = sending (responseTo (k .id .0) (k .chapid .0) (challengeIn k q) random name (keys .hash)) room
+answerOf Again k q random keys name last room = sends room last
+answerOf Respond k q random keys name last room = sends room (responseTo (k .id .0) (k .chapid .0) (challengeIn k q) random name (keys .hash))
 answerOf Confirm k q random keys name last room = confirming k q keys name room
-answerOf Fail k q random keys name last room = sending (failureResponse (k .id .0)) room
+answerOf Fail k q random keys name last room = sends room (failureResponse (k .id .0))
 answerOf Wait k q random keys name last room = saying 1
 answerOf Succeed k q random keys name last room = saying 2
 answerOf End k q random keys name last room = saying 3

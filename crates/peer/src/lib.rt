@@ -8,7 +8,8 @@ ghost use Rattle.answer.specs.Answer.{numberOf, refusalOf};
 ghost use Rattle.answer.specs.Outcome.{Does, refused};
 ghost use Rattle.mschap.specs.Responses.{ntResponse};
 ghost use Rattle.packet.specs.Reader.{toldReading};
-ghost use Rattle.peer.specs.Stored.{Named, UserIn, saying, sending, confirming, answerOf, repliedBy, leftBy, resumedBy};
+ghost use Rattle.writers.specs.Writers.{sends};
+ghost use Rattle.peer.specs.Stored.{Named, UserIn, saying, confirming, answerOf, repliedBy, leftBy, resumedBy};
 ghost use Rattle.peer.specs.State.{responseTo, digitsTo, fresh, staged, answered, responded, kept, supplied};
 ghost use Rattle.peer.specs.Moves.{moveOf, sent, waiting, isRequest, repeats, misnumbered, turnOf};
 ghost use Rattle.peer.specs.Calls.{newOf, challengeIn, renewedIn, turnIn, takenOf, readOf, stepOf, resumeOf, supplyOf, giveUpOf};
@@ -294,20 +295,6 @@ fn say(answer: Answer, reply: &mut [u8]) -> Written
     Written { answer, n: 0 }
 }
 
-// The reply w, or 20.
-fn send(w: &[u8], reply: &mut [u8]) -> Written
-    ensures { λ r. ⌜ Does (sending (now (w .entry)) (length (now (reply .entry)))) (numberOf (r .answer)) (r .n) tt (now (reply .entry)) (now (reply .exit)) ⌝ }
-{
-    if reply.len() < w.len() {
-        return say(Answer::Refused(Refusal::NoRoom), reply);
-    }
-    octets::put_at(reply, 0, w);
-    Written {
-        answer: Answer::Written,
-        n: w.len(),
-    }
-}
-
 // The Response, or 20.
 fn send_response(
     id: Identifier,
@@ -317,7 +304,7 @@ fn send_response(
     reply: &mut [u8],
 ) -> Written
     requires { ⌜ length (now name) ≤ 256 ⌝ }
-    ensures { λ r. ⌜ Does (sending (responseTo (id .0) (chapid .0) (keys .authenticator) (keys .own) (now (name .entry)) (keys .hash)) (length (now (reply .entry)))) (numberOf (r .answer)) (r .n) tt (now (reply .entry)) (now (reply .exit)) ⌝ }
+    ensures { λ r. ⌜ Does (sends (length (now (reply .entry))) (responseTo (id .0) (chapid .0) (keys .authenticator) (keys .own) (now (name .entry)) (keys .hash))) (numberOf (r .answer)) (r .n) tt (now (reply .entry)) (now (reply .exit)) ⌝ }
 {
     let own = keys.own;
     let response = nt_response(keys, user_in(name));
@@ -334,7 +321,7 @@ fn respond(
     reply: &mut [u8],
 ) -> Written
     requires { ⌜ length (now name) ≤ 256 ⌝ }
-    ensures { λ r. ⌜ Does (sending (responseTo (k .id .0) (k .chapid .0) (challengeIn k (now (q .entry))) random (now (name .entry)) hash) (length (now (reply .entry)))) (numberOf (r .answer)) (r .n) tt (now (reply .entry)) (now (reply .exit)) ⌝ }
+    ensures { λ r. ⌜ Does (sends (length (now (reply .entry))) (responseTo (k .id .0) (k .chapid .0) (challengeIn k (now (q .entry))) random (now (name .entry)) hash)) (numberOf (r .answer)) (r .n) tt (now (reply .entry)) (now (reply .exit)) ⌝ }
 {
     let at = k.challenge.start;
     let authenticator = packet::sixteen_at(q, at);
@@ -376,7 +363,7 @@ fn answer_to<'a>(
     match m {
         Move::NotTaken => say(Answer::Refused(Refusal::NotTaken), reply),
         Move::WrongIdentifier => say(Answer::Refused(Refusal::WrongIdentifier), reply),
-        Move::Again => send(last, reply),
+        Move::Again => writers::send(last, reply),
         Move::Respond => respond(k, q, random, name, hash, reply),
         Move::Confirm => confirm(k, q, keys, name, reply),
         Move::Fail => writers::write_failure_response(k.id, reply),

@@ -9,7 +9,7 @@ use lib.Dec.{eqb, ltb, leb}
 use lib.Seq.{take-append-seam}
 use borrow.Author.Tests.{ltb-false, eqb-false, eq-eqb, ne-eqb, le-leb}
 use Rattle.octets.specs.Choice.{pick}
-use Rattle.octets.specs.Lists.{over, sized}
+use Rattle.octets.specs.Lists.{sized}
 use Rattle.octets.specs.Octets.{decimal, same}
 use Rattle.octets.proofs.Exits.{pick-true, pick-false, and-both, passed, below, arms}
 use Rattle.octets.proofs.Decimals.{few-decimal}
@@ -28,7 +28,7 @@ use Rattle.packet.specs.declared.Reading.the-variants.{Refused, Read}
 use Rattle.packet.specs.Forms.{challengePacket, successRequest, failureRequest}
 use Rattle.packet.specs.Reader.{toldReading}
 use Rattle.packet.proofs.Sizes.{length-challengePacket, length-successRequest, length-failureRequest}
-use Rattle.writers.specs.Writers.{writing, writeChallenge, writeSuccessRequest, writeFailureRequest}
+use Rattle.writers.specs.Writers.{sends, writing, writeChallenge, writeSuccessRequest, writeFailureRequest}
 use Rattle.writers.proofs.Writing.{writing-so}
 use Rattle.verdict.specs.declared.Mark.{Mark}
 use Rattle.verdict.specs.declared.Mark.the-variants.{Malformed, Wrong, Right}
@@ -41,7 +41,7 @@ use Rattle.server.specs.declared.Server.{Server}
 use Rattle.server.specs.declared.Turn.{Turn as Taken}
 use Rattle.server.specs.State.{storedRequest, nextId, chapOf, asked, staged}
 use Rattle.server.specs.Moves.{Turn, refusedBy, toldTurn, turnAt, turnRead}
-use Rattle.server.specs.Calls.{sends, asks, asksBy, startFits, rejectOf, failOf, wrongOf, succeedOf, rightOf, actBy, actOf, dueOf, Brings, verdictOf, judgedOf, takeTurn, againOf}
+use Rattle.server.specs.Calls.{asks, asksBy, startFits, rejectOf, failOf, wrongOf, succeedOf, rightOf, actBy, actOf, dueOf, Brings, verdictOf, judgedOf, takeTurn, againOf}
 
 -- ---- how long a request is
 pub challenge-fits : (id chapid : ℕ) (challenge name : List ℕ) → length challenge ≡ 16 → (1 ≤ length name) × (length name ≤ 256)
@@ -60,32 +60,36 @@ failure-fits id chapid code retry challenge =
     let e = length-failureRequest id chapid code retry (length (decimal code)) challenge [] refl in
     (omega (arith, e), omega (arith, e, few-decimal code))
 
--- ---- what goes out: q with the answer k, or 20
-module _ (k K n : ℕ) (q before after : List ℕ) (d : Does (sends (length before) k q) K n tt before after) where
-  sent-cases : {P : Type 0} → (length before < length q → Does {S = Unit {0}} (refused 20 tt) K n tt before after → P) → (length q ≤ length before → Does {S = Unit {0}} (outcome k q tt) K n tt before after → P) → P
+-- ---- what goes out: q, or 20
+pub restaged : (s next : Server) (to stage : Stage) → next ≡ staged to s → to ≡ stage → next ≡ staged stage s
+restaged s next to stage e t = e ∙ ap (λ (x : Stage). staged x s) t
+
+module _ (K n : ℕ) (q before after : List ℕ) (d : Does (sends (length before) q) K n tt before after) where
+  sent-cases : {P : Type 0} → (length before < length q → Does {S = Unit {0}} (refused 20 tt) K n tt before after → P) → (length q ≤ length before → Does {S = Unit {0}} (outcome 0 q tt) K n tt before after → P) → P
   sent-cases f g =
       below (length before) (length q)
-      (λ l. let e : sends (length before) k q ≡ refused 20 tt = fitting-not _ _ _ l in f l (rw e at d))
-      (λ l. let e : sends (length before) k q ≡ outcome k q tt = fitting-so _ _ _ l in g l (rw e at d))
+      (λ l. let e : sends (length before) q ≡ refused 20 tt = fitting-not _ _ _ l in f l (rw e at d))
+      (λ l. let e : sends (length before) q ≡ outcome 0 q tt = fitting-so _ _ _ l in g l (rw e at d))
 
-  -- the state left: the old one where nothing went out
-  does-sent : {S : Type 0} (s next left : S) → (n ≡ 0 → left ≡ s) → (n ≡ length q → left ≡ next) → Does (fitting (length before) s (outcome k q next)) K n left before after
-  does-sent s next left f g =
+  -- the answer k and the state `left`: the writer's refusal and the old state where nothing went out
+  does-sent : {S : Type 0} (k number : ℕ) (s next left : S) → (n ≡ 0 → (k ≡ K) × (left ≡ s)) → (K ≡ 0 → n ≡ length q → (k ≡ number) × (left ≡ next)) → Does (fitting (length before) s (outcome number q next)) k n left before after
+  does-sent k number s next left f g =
       sent-cases
-      (λ l e. rw (fitting-not (length before) s (outcome k q next) l) (record { answered = e .answered; count = e .count; left = f (e .count); written = e .written }))
-      (λ l e. rw (fitting-so (length before) s (outcome k q next) l) (record { answered = e .answered; count = e .count; left = g (e .count); written = e .written }))
+      (λ l e. rw (fitting-not (length before) s (outcome number q next) l) (record { answered = f (e .count) .0 ∙ e .answered; count = e .count; left = f (e .count) .1; written = e .written }))
+      (λ l e. rw (fitting-so (length before) s (outcome number q next) l) (record { answered = g (e .answered) (e .count) .0; count = e .count; left = g (e .answered) (e .count) .1; written = e .written }))
 
-  pub sent-again : (s : Server) → k ≡ 0 → q ≡ storedRequest s → Does (againOf s (length before)) K n s before after
+  pub sent-again : (s : Server) → q ≡ storedRequest s → Does (againOf s (length before)) K n s before after
   unfolding againOf
-  sent-again s z e = rw (← z, ← e) (does-sent s s s (λ _. refl) (λ _. refl))
+  sent-again s e = rw (← e) (does-sent K 0 s s s (λ _. (refl, refl)) (λ z _. (z, refl)))
 
-  pub sent-staged : (s next : Server) (to stage : Stage) → length q ≡ 4 → to ≡ pick (eqb n 0) (s .stage) stage → next ≡ staged to s
-      → Does (fitting (length before) s (outcome k q (staged stage s))) K n next before after
+  sent-staged : (s next : Server) (stage : Stage) (k number : ℕ) → length q ≡ 4 → k ≡ pick (eqb n 0) K number → next ≡ staged (pick (eqb n 0) (s .stage) stage) s
+      → Does (fitting (length before) s (outcome number q (staged stage s))) k n next before after
   unfolding staged
-  sent-staged s next to stage four t e =
-      does-sent s (staged stage s) next
-      (λ z. e ∙ ap (λ (x : Stage). staged x s) (t ∙ pick-true _ _ _ (eq-eqb n 0 z)))
-      (λ z. let some : n ≡ 0 → ⊥ = λ o. omega arith in e ∙ ap (λ (x : Stage). staged x s) (t ∙ pick-false _ _ _ (ne-eqb n 0 some)))
+  sent-staged s next stage k number four a e =
+      let to : Stage → Server = λ x. staged x s in
+      does-sent k number s (staged stage s) next
+      (λ z. (a ∙ pick-true _ _ _ (eq-eqb n 0 z), e ∙ ap to (pick-true _ _ _ (eq-eqb n 0 z))))
+      (λ _ z. let some : n ≡ 0 → ⊥ = λ o. omega arith in (a ∙ pick-false _ _ _ (ne-eqb n 0 some), e ∙ ap to (pick-false _ _ _ (ne-eqb n 0 some))))
 
   -- w is what was written of the request q: all of it, or nothing
   pub sent-few : (w : List ℕ) → (1 ≤ length q) × (length q ≤ 282) → w ≡ take n after → length w ≤ 282
@@ -128,32 +132,32 @@ module _ (s : Server) (stage : Stage) (id : Identifier) (challenge : List ℕ) (
       (record { answered = refl; count = refl; left = refl; written = rw whole (sym (append-nil q)) })
 
 -- ---- what the writers make: a packet that has a form
--- into as many octets: the packet
-pub whole-written : (k n : ℕ) (q before after : List ℕ) → Does (writing true (length before) q) k n tt before after → length before ≡ length q → length q ≤ 1020 → after ≡ q
-whole-written k n q before after d e l =
-    let w : writing true (length before) q ≡ outcome 0 q tt = writing-so true (length before) q refl l ∙ fitting-so (length before) tt (outcome 0 q tt) (omega arith) in
-    let z : drop (length q) before ≡ [] = drop-of-length-le before {i = length q} (omega arith) in
-    d .written ∙ ap (λ (o : Outcome (Unit {0})). over (o .octets) before) w ∙ rw z (append-nil q)
+-- the last one, of four octets
+pub closed-by : (q before after : List ℕ) (K n k m number : ℕ) (s next : Server) (stage : Stage) → Does (writing true (length before) q) K n tt before after → length q ≡ 4
+    → (k ≡ pick (eqb n 0) K number) × ((m ≡ n) × (next ≡ staged (pick (eqb n 0) (s .stage) stage) s)) → Does (fitting (length before) s (outcome number q (staged stage s))) k m next before after
+closed-by q before after K n k m number s next stage d four e =
+    let w : Does (sends (length before) q) K n tt before after = rw (writing-so true (length before) q refl (omega arith)) at d in
+    rw (e .1 .0) (sent-staged K n q before after w s next stage k number four (e .0) (e .1 .1))
 
 module _ (id : Identifier) (chapid : ChapId) (k n : ℕ) (before after : List ℕ) (e : chapid ≡ chapOf id) where
   -- the same packet, with the MS-CHAPv2-ID that the server writes
   written-by : (formed : Bool) (q : ChapId → List ℕ) → Does (writing formed (length before) (q chapid)) k n tt before after → formed ≡ true → length (q (chapOf id)) ≤ 1020
-      → Does (sends (length before) 0 (q (chapOf id))) k n tt before after
+      → Does (sends (length before) (q (chapOf id))) k n tt before after
   written-by formed q d f l = rw (writing-so formed (length before) (q (chapOf id)) f l) at (rw e at d)
 
   pub challenge-sent : (challenge name : List ℕ) → length challenge ≡ 16 → (1 ≤ length name) × (length name ≤ 256) → Does (writeChallenge (id .0) (chapid .0) challenge name (length before)) k n tt before after
-      → Does (sends (length before) 0 (challengePacket (id .0) (chapOf id .0) challenge name)) k n tt before after
+      → Does (sends (length before) (challengePacket (id .0) (chapOf id .0) challenge name)) k n tt before after
   challenge-sent challenge name c l d =
       written-by (leb 1 (length name)) (λ i. challengePacket (id .0) (i .0) challenge name) d (le-leb _ _ (l .0))
       (omega (arith, length-challengePacket (id .0) (chapOf id .0) challenge name c, l .1))
 
   pub success-sent : (string : List ℕ) → Does (writeSuccessRequest (id .0) (chapid .0) string [] (length before)) k n tt before after
-      → Does (sends (length before) 0 (successRequest (id .0) (chapOf id .0) string [])) k n tt before after
+      → Does (sends (length before) (successRequest (id .0) (chapOf id .0) string [])) k n tt before after
   success-sent string d =
       written-by true (λ i. successRequest (id .0) (i .0) string []) d refl (omega (arith, length-successRequest (id .0) (chapOf id .0) string []))
 
   pub failure-sent : (code retry : ℕ) (fresh : List ℕ) → code < 65536 → retry ≤ 1 → Does (writeFailureRequest (id .0) (chapid .0) code retry fresh [] (length before)) k n tt before after
-      → Does (sends (length before) 0 (failureRequest (id .0) (chapOf id .0) code retry fresh [])) k n tt before after
+      → Does (sends (length before) (failureRequest (id .0) (chapOf id .0) code retry fresh [])) k n tt before after
   failure-sent code retry fresh c r d =
       written-by (leb code 9999999999 && leb retry 1) (λ i. failureRequest (id .0) (i .0) code retry fresh []) d (and-both _ _ (le-leb code 9999999999 (omega arith)) (le-leb retry 1 r))
       (omega (arith, failure-fits (id .0) (chapOf id .0) code retry fresh .1))
@@ -161,15 +165,15 @@ module _ (id : Identifier) (chapid : ChapId) (k n : ℕ) (before after : List �
 -- ---- the act
 -- the next request, under its Identifier, of which w was written
 module _ (s next : Server) (id : Identifier) (k n j m : ℕ) (before after w : List ℕ) (e : id ≡ nextId (s .id)) (t : w ≡ take n after) where
-  pub reject-by : (stage : Stage) (retries code retry : ℕ) (fresh : List ℕ) → Does (sends (length before) 0 (failureRequest (id .0) (chapOf id .0) code retry fresh [])) k n tt before after
+  pub reject-by : (stage : Stage) (retries code retry : ℕ) (fresh : List ℕ) → Does (sends (length before) (failureRequest (id .0) (chapOf id .0) code retry fresh [])) k n tt before after
       → Does (asksBy s stage id fresh retries w) j m next w w → Does (rejectOf s stage retries code retry fresh (length before)) j m next before after
   unfolding rejectOf
-  reject-by stage retries code retry fresh d v = rw (← e) (sent-asks 0 k n _ before after d s next stage id fresh retries j m w (failure-fits _ _ code retry fresh) t v)
+  reject-by stage retries code retry fresh d v = rw (← e) (sent-asks k n _ before after d s next stage id fresh retries j m w (failure-fits _ _ code retry fresh) t v)
 
-  pub succeed-by : (string : List ℕ) → Does (sends (length before) 0 (successRequest (id .0) (chapOf id .0) string [])) k n tt before after
+  pub succeed-by : (string : List ℕ) → Does (sends (length before) (successRequest (id .0) (chapOf id .0) string [])) k n tt before after
       → Does (asksBy s SuccessRequestSent id (s .challenge) (s .retries) w) j m next w w → Does (succeedOf s string (length before)) j m next before after
   unfolding succeedOf
-  succeed-by string d v = rw (← e) (sent-asks 0 k n _ before after d s next SuccessRequestSent id (s .challenge) (s .retries) j m w (success-fits _ _ string) t v)
+  succeed-by string d v = rw (← e) (sent-asks k n _ before after d s next SuccessRequestSent id (s .challenge) (s .retries) j m w (success-fits _ _ string) t v)
 
 pub digit-few : (b : Bool) (r : ℕ) → r ≡ pick b 1 0 → r ≤ 1
 digit-few b r e = rw e (arms (λ n. n ≤ 1) b (omega arith) (omega arith))

@@ -25,10 +25,6 @@ use Rattle.server.specs.declared.Server.{Server}
 use Rattle.server.specs.State.{storedRequest, nextId, chapOf, asked, staged}
 use Rattle.server.specs.Moves.{begins, sent, Turn, refusedBy, judges, confirms, ends, turnOf}
 
--- the octets q go out with the answer k
-abbrev pub sends : ℕ → ℕ → List ℕ → Outcome (Unit {0})
-sends room k q = fitting room tt (outcome k q tt)
-
 -- a request goes out, and the state waits for its answer
 unfoldable pub asks : Server → Stage → Identifier → List ℕ → ℕ → List ℕ → ℕ → Outcome Server
 asks s stage id challenge retries q room = fitting room s (outcome 0 q (asked stage id challenge retries q))

@@ -7,14 +7,15 @@ ghost use lib.ListN.{length};
 ghost use lib.Dec.{eqb};
 ghost use Rattle.octets.specs.Choice.{pick};
 ghost use Rattle.answer.specs.Answer.{numberOf, refusalOf};
-ghost use Rattle.answer.specs.Outcome.{Does, outcome, refused, fitting};
-ghost use Rattle.packet.specs.Forms.{challengePacket, successRequest, failureRequest, eapSuccess, eapFailure};
+ghost use Rattle.answer.specs.Outcome.{Does, refused};
+ghost use Rattle.packet.specs.Forms.{challengePacket, successRequest, failureRequest};
 ghost use Rattle.packet.specs.Reader.{toldReading};
 ghost use Rattle.verdict.specs.Verdict.{judgeOf};
+ghost use Rattle.writers.specs.Writers.{sends};
 ghost use Rattle.server.specs.declared.Stage.the-variants as Stage;
 ghost use Rattle.server.specs.State.{nextId, chapOf, fresh as freshServer, staged};
 ghost use Rattle.server.specs.Moves.{begins, sent, moveOf, toldTurn, turnBy, turnAt, turnRead, turnOf};
-ghost use Rattle.server.specs.Calls.{sends, asksBy, asks, startFits, startOf, rejectOf, failOf, wrongOf, succeedOf, rightOf, actBy, dueOf, Brings, judgedOf, peerChallengeOf, ntResponseOf, nameOf, confirmOf, endOf, takeTurn, packetOf, againOf, resendOf};
+ghost use Rattle.server.specs.Calls.{asksBy, asks, startFits, startOf, rejectOf, failOf, wrongOf, succeedOf, rightOf, actBy, dueOf, Brings, judgedOf, peerChallengeOf, ntResponseOf, nameOf, confirmOf, endOf, takeTurn, packetOf, againOf, resendOf};
 use answer::Answer;
 use answer::ChapId;
 use answer::Identifier;
@@ -203,13 +204,13 @@ fn chap_of(id: Identifier) -> ChapId
 // ---- what goes out
 fn challenge_request(id: Identifier, challenge: [u8; 16], name: &[u8], reply: &mut [u8]) -> Written
     requires { ⌜ (1 ≤ length (now name)) × (length (now name) ≤ 256) ⌝ }
-    ensures { λ r. ⌜ Does (sends (length (now (reply .entry))) 0 (challengePacket (id .0) (chapOf id .0) challenge (now (name .entry)))) (numberOf (r .answer)) (r .n) tt (now (reply .entry)) (now (reply .exit)) ⌝ }
+    ensures { λ r. ⌜ Does (sends (length (now (reply .entry))) (challengePacket (id .0) (chapOf id .0) challenge (now (name .entry)))) (numberOf (r .answer)) (r .n) tt (now (reply .entry)) (now (reply .exit)) ⌝ }
 {
     writers::write_challenge(id, chap_of(id), challenge, name, reply)
 }
 
 fn success_request(id: Identifier, string: [u8; 20], reply: &mut [u8]) -> Written
-    ensures { λ r. ⌜ Does (sends (length (now (reply .entry))) 0 (successRequest (id .0) (chapOf id .0) string [])) (numberOf (r .answer)) (r .n) tt (now (reply .entry)) (now (reply .exit)) ⌝ }
+    ensures { λ r. ⌜ Does (sends (length (now (reply .entry))) (successRequest (id .0) (chapOf id .0) string [])) (numberOf (r .answer)) (r .n) tt (now (reply .entry)) (now (reply .exit)) ⌝ }
 {
     writers::write_success_request(id, chap_of(id), string, b"", reply)
 }
@@ -222,39 +223,19 @@ fn failure_request(
     reply: &mut [u8],
 ) -> Written
     requires { ⌜ retry ≤ 1 ⌝ }
-    ensures { λ r. ⌜ Does (sends (length (now (reply .entry))) 0 (failureRequest (id .0) (chapOf id .0) code retry fresh [])) (numberOf (r .answer)) (r .n) tt (now (reply .entry)) (now (reply .exit)) ⌝ }
+    ensures { λ r. ⌜ Does (sends (length (now (reply .entry))) (failureRequest (id .0) (chapOf id .0) code retry fresh [])) (numberOf (r .answer)) (r .n) tt (now (reply .entry)) (now (reply .exit)) ⌝ }
 {
     writers::write_failure_request(id, chap_of(id), code as u64, retry, fresh, b"", reply)
 }
 
-// The octets into the reply, or 20.
-fn send(answer: Answer, q: &[u8], reply: &mut [u8]) -> Written
-    ensures { λ r. ⌜ Does (sends (length (now (reply .entry))) (numberOf answer) (now (q .entry))) (numberOf (r .answer)) (r .n) tt (now (reply .entry)) (now (reply .exit)) ⌝ }
+// The answer after n octets were sent: the writer's own where none were.
+fn answer_after(n: usize, refusal: Answer, answer: Answer) -> Answer
+    ensures { λ r. ⌜ numberOf r ≡ pick (eqb n 0) (numberOf refusal) (numberOf answer) ⌝ }
 {
-    if reply.len() < q.len() {
-        return Written {
-            answer: Answer::Refused(Refusal::NoRoom),
-            n: 0,
-        };
+    if n == 0 {
+        return refusal;
     }
-    octets::put_at(reply, 0, q);
-    Written { answer, n: q.len() }
-}
-
-fn eap_success(id: Identifier) -> [u8; 4]
-    ensures { λ r. ⌜ r ≡ eapSuccess (id .0) ⌝ }
-{
-    let mut q = [0u8; 4];
-    writers::write_eap_success(id, &mut q);
-    q
-}
-
-fn eap_failure(id: Identifier) -> [u8; 4]
-    ensures { λ r. ⌜ r ≡ eapFailure (id .0) ⌝ }
-{
-    let mut q = [0u8; 4];
-    writers::write_eap_failure(id, &mut q);
-    q
+    answer
 }
 
 // The stage after n octets were sent: the old one where none were.
@@ -389,12 +370,12 @@ impl Server {
         }
     }
 
-    // The last packet goes out, or 20.
-    fn close(self, answer: Answer, stage: Stage, q: [u8; 4], reply: &mut [u8]) -> ServerStep
-        ensures { λ r. ⌜ Does (fitting (length (now (reply .entry))) self (outcome (numberOf answer) q (staged stage self))) (numberOf (r .answer)) (r .n) (r .server) (now (reply .entry)) (now (reply .exit)) ⌝ }
+    // The last packet went out as w, or there was no room for it.
+    fn close(self, w: Written, answer: Answer, stage: Stage) -> ServerStep
+        ensures { λ r. ⌜ (numberOf (r .answer) ≡ pick (eqb (w .n) 0) (numberOf (w .answer)) (numberOf answer)) × ((r .n ≡ w .n) × (r .server ≡ staged (pick (eqb (w .n) 0) (self .stage) stage) self)) ⌝ }
     {
-        let w = send(answer, &q, reply);
-        let answer = w.answer;
+        let refusal = w.answer;
+        let answer = answer_after(w.n, refusal, answer);
         let old = self.stage;
         let stage = stage_after(w.n, old, stage);
         ServerStep {
@@ -600,16 +581,16 @@ impl Server {
     fn confirm(self, k: Packet, reply: &mut [u8]) -> ServerStep
         ensures { λ r. ⌜ Does (confirmOf k self (length (now (reply .entry)))) (numberOf (r .answer)) (r .n) (r .server) (now (reply .entry)) (now (reply .exit)) ⌝ }
     {
-        let q = eap_success(k.id);
-        self.close(Answer::Authenticated, Stage::Success, q, reply)
+        let w = writers::write_eap_success(k.id, reply);
+        self.close(w, Answer::Authenticated, Stage::Success)
     }
 
     // EAP Failure goes out.
     fn end(self, k: Packet, reply: &mut [u8]) -> ServerStep
         ensures { λ r. ⌜ Does (endOf k self (length (now (reply .entry)))) (numberOf (r .answer)) (r .n) (r .server) (now (reply .entry)) (now (reply .exit)) ⌝ }
     {
-        let q = eap_failure(k.id);
-        self.close(Answer::Ended, Stage::Failed, q, reply)
+        let w = writers::write_eap_failure(k.id, reply);
+        self.close(w, Answer::Ended, Stage::Failed)
     }
 
     fn take_turn(
@@ -650,7 +631,7 @@ impl Server {
     {
         let request = self.request;
         let n = self.requestlen as usize;
-        let w = send(Answer::Written, octets::part(&request, 0, n), reply);
+        let w = writers::send(octets::part(&request, 0, n), reply);
         let answer = w.answer;
         ServerStep {
             answer,

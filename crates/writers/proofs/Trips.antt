@@ -1,21 +1,17 @@
--- For callers: a packet with a form is written where there is room, and what was written reads back.
+-- For callers: what was written reads back.
 use Prim.Native.Nat.{ℕ, _+_, _≤_}
 use mathlib.Core.Path.{_≡_, refl, sym, ap, _∙_}
 use mathlib.Core.List.{List, []}
 use mathlib.Core.Bool.{Bool, true, false, not, _&&_}
 use native.Mathlib.Omega.{arith}
-use lib.ListN.{length, drop, replicate}
+use lib.ListN.{length, drop}
 use lib.Dec.{ltb, leb, eqb}
 use borrow.Author.Tests.{ltb-false, leb-true, not-false}
 use Rattle.octets.specs.Choice.{pick}
-use Rattle.octets.specs.Lists.{cells, sized, over}
+use Rattle.octets.specs.Lists.{cells, over}
 use Rattle.octets.specs.Octets.{AreOctets, hexAt, decimal}
 use Rattle.octets.proofs.Exits.{pick-true, pick-false, tested}
-use Rattle.octets.proofs.Appends.{over-zeros}
-use Rattle.answer.specs.Answer.{numberOf}
-use Rattle.answer.specs.declared.Answer.the-variants as answer
 use Rattle.answer.specs.Outcome.{gives, Outcome, outcome, refused, fitting, Does}
-use Rattle.answer.proofs.Apart.{numbers-apart}
 use Rattle.answer.proofs.Outcomes.{fitting-so}
 use Rattle.packet.specs.declared.End.{End}
 use Rattle.packet.specs.declared.End.the-variants.{Peer, Server}
@@ -25,25 +21,8 @@ use Rattle.packet.specs.Reader.{readPacket, reading, place, nowhere, at, failur
 use Rattle.packet.specs.Forms.{challengePacket, responsePacket, successRequest, failureRequest}
 use Rattle.packet.proofs.Sizes.{length-challengePacket, length-successRequest, length-failureRequest}
 use Rattle.packet.proofs.Back.{Back, challenge-back, response-back, success-request-back, failure-request-back, success-response-back, failure-response-back, eap-success-back, eap-failure-back}
-use Rattle.writers.specs.declared.Written.{Written}
 use Rattle.writers.specs.Writers.{writing, writeChallenge, writeResponse, writeSuccessRequest, writeFailureRequest, writeSuccessResponse, writeFailureResponse, writeEapSuccess, writeEapFailure}
 use Rattle.writers.proofs.Writing.{writing-so}
-
--- ---- q was written over the front of old
-pub record Wrote (q old after : List ℕ) (w : Written) : Type 0 where
-  pub answer-is : w .answer ≡ answer.Written
-  pub count : w .n ≡ length q
-  pub now : after ≡ over q old
-
-pub wrote : (formed : Bool) (q old after : List ℕ) (w : Written) → formed ≡ true → length q ≤ 1020 → length q ≤ length old → Does (writing formed (length old) q) (numberOf (w .answer)) (w .n) tt old after → Wrote q old after w
-wrote formed q old after w f h k d =
-    let e : writing formed (length old) q ≡ outcome 0 q tt = writing-so formed (length old) q f h ∙ fitting-so (length old) tt (outcome 0 q tt) k in
-    let d′ = rw e at d in
-    record { answer-is = numbers-apart (w .answer) answer.Written (d′ .answered); count = d′ .count; now = d′ .written }
-
--- an array of n zeros
-pub wrote-zeros : (q after : List ℕ) (n : ℕ) (w : Written) → length q ≤ n → Wrote q (replicate n 0) after w → after ≡ sized n q
-wrote-zeros q after n w h p = p .now ∙ over-zeros q n h
 
 both-true : (a b : Bool) → (a && b) ≡ true → (a ≡ true) × (b ≡ true)
 both-true true b e = (refl, e)

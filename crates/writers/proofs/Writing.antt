@@ -6,15 +6,21 @@ use mathlib.Core.Bool.{Bool, true, false, not}
 use lib.ListN.{length}
 use borrow.Author.Needs.{needs}
 use borrow.Author.Tests.{lt-ltb, le-ltb, le-leb, lt-leb}
-use Rattle.octets.specs.Lists.{Appended}
+use Rattle.octets.specs.Lists.{put, Appended}
 use Rattle.octets.proofs.Exits.{pick-true, pick-false, and-both, and-first, and-second}
 use Rattle.octets.proofs.Appends.{appended-front}
 use Rattle.answer.specs.Outcome.{outcome, refused, fitting, Does}
-use Rattle.answer.proofs.Outcomes.{does-by, fitting-so, fitting-not}
-use Rattle.writers.specs.Writers.{writing}
+use Rattle.answer.proofs.Outcomes.{does-by, does-written, does-not, fitting-so, fitting-not}
+use Rattle.writers.specs.Writers.{sends, writing}
 
 nothing : (number k n : ℕ) (b : List ℕ) → k ≡ number → n ≡ 0 → Does (refused {S = Unit {0}} number tt) k n tt b b
 nothing number k n b e z = record { answered = e; count = z; left = refl; written = refl }
+
+pub not-sent : (k n : ℕ) (q b : List ℕ) → k ≡ 20 → n ≡ 0 → length b < length q → Does (sends (length b) q) k n tt b b
+not-sent k n q b e z m = rw (e, z) (does-not tt tt 0 q b m)
+
+pub all-sent : (k n : ℕ) (q b after : List ℕ) → k ≡ 0 → n ≡ length q → length q ≤ length b → after ≡ put b 0 q → Does (sends (length b) q) k n tt b after
+all-sent k n q b after e i m w = rw (e, i) (does-written tt tt 0 q b after m w)
 
 pub no-form : (formed : Bool) (room k n : ℕ) (q b : List ℕ) → k ≡ 23 → n ≡ 0 → formed ≡ false → Does (writing formed room q) k n tt b b
 unfolding writing

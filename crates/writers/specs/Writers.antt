@@ -8,12 +8,16 @@ use Rattle.octets.specs.Choice.{pick}
 use Rattle.answer.specs.Outcome.{Outcome, outcome, refused, fitting}
 use Rattle.packet.specs.Forms.{challengePacket, responsePacket, successRequest, failureRequest, successResponse, failureResponse, eapSuccess, eapFailure}
 
+-- 0 and the octets q, or 20
+abbrev pub sends : ℕ → List ℕ → Outcome (Unit {0})
+sends room q = fitting room tt (outcome 0 q tt)
+
 -- 01, "What a call answers": "a writer gives 23 for what has no form above or needs L over 1,020", then 20; else 0 and the packet
 unfoldable pub writing : Bool → ℕ → List ℕ → Outcome (Unit {0})
 writing formed room q =
     pick (not formed) (refused 23 tt)
     (pick (ltb 1020 (length q)) (refused 23 tt)
-    (fitting room tt (outcome 0 q tt)))
+    (sends room q))
 
 -- a name of one octet or more
 abbrev pub writeChallenge : ℕ → ℕ → List ℕ → List ℕ → ℕ → Outcome (Unit {0})

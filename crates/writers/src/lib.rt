@@ -8,7 +8,7 @@ ghost use Rattle.octets.specs.Octets.{decimal};
 ghost use Rattle.answer.specs.Answer.{refusalOf, numberOf};
 ghost use Rattle.answer.specs.Outcome.{Does};
 ghost use Rattle.packet.specs.Forms.{header, challengePacket, responsePacket, successRequest, failureRequest};
-ghost use Rattle.writers.specs.Writers.{writing, writeChallenge, writeResponse, writeSuccessRequest, writeFailureRequest, writeSuccessResponse, writeFailureResponse, writeEapSuccess, writeEapFailure};
+ghost use Rattle.writers.specs.Writers.{sends, writing, writeChallenge, writeResponse, writeSuccessRequest, writeFailureRequest, writeSuccessResponse, writeFailureResponse, writeEapSuccess, writeEapFailure};
 use answer::Answer;
 use answer::ChapId;
 use answer::Identifier;
@@ -38,16 +38,23 @@ fn done(n: usize) -> Written
     }
 }
 
+// Writes octets as they are, or answers 20.
+pub fn send(q: &[u8], out: &mut [u8]) -> Written
+    ensures { λ r. ⌜ Does (sends (length (now (out .entry))) (now (q .entry))) (numberOf (r .answer)) (r .n) tt (now (out .entry)) (now (out .exit)) ⌝ }
+{
+    if out.len() < q.len() {
+        return refuse(Refusal::NoRoom);
+    }
+    octets::put_at(out, 0, q);
+    done(q.len())
+}
+
 // Writes octets that are a packet.
 fn write_whole(q: &[u8], out: &mut [u8]) -> Written
     requires { ⌜ length (now q) ≤ 1020 ⌝ }
     ensures { λ r. ⌜ Does (writing true (length (now (out .entry))) (now (q .entry))) (numberOf (r .answer)) (r .n) tt (now (out .entry)) (now (out .exit)) ⌝ }
 {
-    if out.len() < q.len() {
-        return refuse(Refusal::NoRoom);
-    }
-    let n = octets::append(out, 0, q);
-    done(n)
+    send(q, out)
 }
 
 // The first nine octets of a packet with an MS-CHAPv2-ID.

@@ -17,9 +17,9 @@ begin-spec =
     (λ c κs. search needs)
     (λ c κs.
     let s = c .before .before .before .before .before .before .before .before in
-    sent-few _ _ _ _ _ _ (c .before .before .before .before .challenge-request .ensures) _ (challenge-fits _ _ _ _ (size s) (start-named _ _ (s .pre))) (c .part .ensures))
+    sent-few _ _ _ _ _ (c .before .before .before .before .challenge-request .ensures) _ (challenge-fits _ _ _ _ (size s) (start-named _ _ (s .pre))) (c .part .ensures))
     (λ c. search needs)
     (λ c.
     let s = c .before .before .before .before .before .before .before .before .before in
-    sent-asks _ _ _ _ _ _ (c .before .before .before .before .before .challenge-request .ensures) _ _ _ _ _ _ _ _ _
+    sent-asks _ _ _ _ _ (c .before .before .before .before .before .challenge-request .ensures) _ _ _ _ _ _ _ _ _
     (challenge-fits _ _ _ _ (size s) (start-named _ _ (s .pre))) (c .before .part .ensures) (c .ask .ensures)))

@@ -1,5 +1,6 @@
-use Rattle.answer.proofs.Outcomes.{does-by}
+use mathlib.Core.Path.{refl}
 use Rattle.server.specs.Calls.{endOf}
+use Rattle.server.proofs.Laws.{closed-by}
 use borrow.Author.Needs.{needs}
 use Rattle.server.proofs.Server.end.Statement.{statement}
 use Rattle.server.proofs.Server.end.Tie as tie
@@ -12,4 +13,4 @@ end-spec =
     (λ c κs. search needs)
     (λ c κs. search needs)
     (λ c. search needs)
-    (λ c. does-by _ _ _ _ _ _ _ (c .before .before .close .ensures) (cc)))
+    (λ c. closed-by _ _ _ _ _ _ _ _ _ _ _ (c .before .before .before .write-eap-failure .ensures) refl (c .close .ensures)))

@@ -10,6 +10,6 @@ reject-spec =
     (λ c κs. search needs)
     (λ c κs. search needs)
     (λ c κs. search needs)
-    (λ c κs. sent-few _ _ _ _ _ _ (c .before .before .before .before .failure-request .ensures) _ (failure-fits _ _ _ _ _) (c .part .ensures))
+    (λ c κs. sent-few _ _ _ _ _ (c .before .before .before .before .failure-request .ensures) _ (failure-fits _ _ _ _ _) (c .part .ensures))
     (λ c. search needs)
     (λ c. search (needs, reject-by)))

@@ -10,6 +10,6 @@ succeed-spec =
     (λ c κs. search needs)
     (λ c κs. search needs)
     (λ c κs. search needs)
-    (λ c κs. sent-few _ _ _ _ _ _ (c .before .before .before .before .success-request .ensures) _ (success-fits _ _ _) (c .part .ensures))
+    (λ c κs. sent-few _ _ _ _ _ (c .before .before .before .before .success-request .ensures) _ (success-fits _ _ _) (c .part .ensures))
     (λ c. search needs)
     (λ c. search (needs, succeed-by)))
