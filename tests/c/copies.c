@@ -3,6 +3,7 @@
  * the struct), hands it to the step, gets the state after it, and encodes that: five copies. One that makes more ends
  * this program with status 1. tests/c/run links it so that the archive's memcpy and memmove are those below. */
 #include <stdio.h>
+#include <string.h>
 
 #include "zirgumtak.h"
 
@@ -94,6 +95,7 @@ static void right_password(void)
 
 static void wrong_passwords(void)
 {
+    uint8_t waiting[ZT_PEER_OCTETS];
     start(WRONG_HASH, 1);
     to_peer("peer, Challenge", ZT_WRITTEN);
     counting(SERVER_COPY);
@@ -101,6 +103,9 @@ static void wrong_passwords(void)
     to_peer("peer, the Challenge again", ZT_WRITTEN);
     to_server("server, wrong Response, a retry left", ZT_WRITTEN);
     to_peer("peer, Failure Request, R=1", ZT_NEEDS_CREDENTIALS);
+    memcpy(waiting, peer, sizeof peer);
+    counting(PEER_COPY);
+    done("peer, give up", zt_peer_give_up(waiting, sizeof waiting), ZT_ENDED);
     counting(PEER_COPY);
     done("peer, supply", zt_peer_supply(peer, sizeof peer, NAME, sizeof NAME, WRONG_HASH, 16, RANDOM, 16,
                                         reply, sizeof reply), ZT_WRITTEN);
