@@ -36,10 +36,6 @@ octets-below o ws n k =
     (λ h. rw (getD-cells n (octetAt o ws) k h) (omega arith))
     (λ h. rw (← getD-past (cells n (octetAt o ws)) k (rw (length-cells n (octetAt o ws)) h)) (omega arith))
 
-pub md4-octet : (m : List ℕ) (k : ℕ) → getD (md4Of m) k 0 < 256
-unfolding md4Of output
-md4-octet m k = octets-below _ _ 16 k
-
 pub sha1-octet : (m : List ℕ) (k : ℕ) → getD (sha1Of m) k 0 < 256
 unfolding sha1Of sha1.output
 sha1-octet m k = octets-below _ _ 20 k

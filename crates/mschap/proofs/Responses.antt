@@ -11,10 +11,8 @@ use Rattle.digest.specs.Sha1.{sha1Of}
 use Rattle.digest.proofs.Digests.{length-md4, length-sha1, sha1-octet}
 use Rattle.mschap.specs.Users.{userStart, userOf}
 use Rattle.mschap.specs.Responses.{passwordHash, challengeHash, blockOf, ntResponse, magic, padding, authenticatorOf, digitsOf}
-use Rattle.mschap.specs.Answers.{Place, passwordHashTold, userTold, challengeHashTold, ntResponseTold, authenticatorTold, toldPasswordHash, toldUser, toldChallengeHash, toldNtResponse, toldAuthenticator}
-use Rattle.mschap.specs.declared.PasswordHash.{PasswordHash}
+use Rattle.mschap.specs.Answers.{Place, userTold, ntResponseTold, authenticatorTold, toldUser, toldNtResponse, toldAuthenticator}
 use Rattle.mschap.specs.declared.User.{User}
-use Rattle.mschap.specs.declared.ChallengeHash.{ChallengeHash}
 use Rattle.mschap.specs.declared.NtResponse.{NtResponse}
 use Rattle.mschap.specs.declared.Authenticator.{Authenticator}
 use Rattle.mschap.proofs.Answers.{given}
@@ -54,17 +52,9 @@ unfolding magic padding
 length-constants = (refl, refl)
 
 -- ---- what is given
-pub password-hash-given : (units : List ℕ) → length units ≤ 256 → passwordHashTold units ≡ gives (passwordHash units)
-unfolding passwordHashTold
-password-hash-given units h = sym (given _ _ _ _ h refl)
-
 pub user-given : (name : List ℕ) → length name ≤ 256 → userTold name ≡ gives (record { start = userStart name; len = length (userOf name) })
 unfolding userTold
 user-given name h = sym (given _ _ _ _ h refl)
-
-pub challenge-hash-given : (peer authenticator user : List ℕ) → length user ≤ 256 → challengeHashTold peer authenticator user ≡ gives (challengeHash peer authenticator user)
-unfolding challengeHashTold
-challenge-hash-given peer authenticator user h = sym (given _ _ _ _ h refl)
 
 pub nt-response-given : (authenticator peer user hash : List ℕ) → length user ≤ 256 → ntResponseTold authenticator peer user hash ≡ gives (ntResponse authenticator peer user hash)
 unfolding ntResponseTold
@@ -78,16 +68,10 @@ authenticator-given hash response peer authenticator user h = sym (given _ _ _ _
 value : {A : Type 0} {t : Told A} {x : A} → t ≡ gives x → t .value ≡ x
 value {A} e = ap (λ (t : Told A). t .value) e
 
-pub password-hash-octets : (r : PasswordHash) (units : List ℕ) → toldPasswordHash r ≡ passwordHashTold units → length units ≤ 256 → r .octets ≡ passwordHash units
-password-hash-octets r units e h = value (e ∙ password-hash-given units h)
-
 pub user-place : (r : User) (name : List ℕ) → toldUser r ≡ userTold name → length name ≤ 256 → (r .start ≡ userStart name) × (r .len ≡ length (userOf name))
 user-place r name e h =
     let p = value (e ∙ user-given name h) in
     (ap (λ (q : Place). q .start) p, ap (λ (q : Place). q .len) p)
-
-pub challenge-hash-octets : (r : ChallengeHash) (peer authenticator user : List ℕ) → toldChallengeHash r ≡ challengeHashTold peer authenticator user → length user ≤ 256 → r .octets ≡ challengeHash peer authenticator user
-challenge-hash-octets r peer authenticator user e h = value (e ∙ challenge-hash-given peer authenticator user h)
 
 pub nt-response-octets : (r : NtResponse) (authenticator peer user hash : List ℕ) → toldNtResponse r ≡ ntResponseTold authenticator peer user hash → length user ≤ 256 → r .octets ≡ ntResponse authenticator peer user hash
 nt-response-octets r authenticator peer user hash e h = value (e ∙ nt-response-given authenticator peer user hash h)

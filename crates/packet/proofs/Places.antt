@@ -9,19 +9,9 @@ use Rattle.packet.specs.declared.End.{End}
 use Rattle.packet.specs.declared.Kind.{Kind}
 use Rattle.packet.specs.declared.Kind.the-variants.{Challenge, Response, SuccessRequest, FailureRequest, RetryRequest, SuccessResponse, FailureResponse, EapSuccess, EapFailure}
 use Rattle.packet.specs.declared.Packet.{Packet}
-use Rattle.packet.specs.declared.Reading.{Reading}
-use Rattle.packet.specs.declared.Reading.the-variants.{Read}
-use Rattle.packet.specs.Reader.{toldReading, readPacket}
+use Rattle.packet.specs.Reader.{readPacket}
 use Rattle.packet.proofs.Shapes.{FailureShape, BareShape}
-use Rattle.packet.proofs.Readings.{Tells, tells, Shape}
-
--- what the call gave, where it gave a reading
-pub tells-read : (end : End) (p : List ℕ) (r : Reading) (x : Packet) → toldReading r ≡ readPacket end p → r ≡ Read x → Tells end p x
-tells-read end p r x e k = tells end p x (sym e ∙ (λ j. toldReading (k j)))
-
--- and where its kind is known
-pub shape-of : (end : End) (p : List ℕ) (x : Packet) (kind : Kind) → Tells end p x → x .kind ≡ kind → Shape kind (take (x .length) p) x
-shape-of end p x kind t k = subst (λ (z : Kind). Shape z (take (x .length) p) x) k (t .shape)
+use Rattle.packet.proofs.Readings.{tells, Shape}
 
 pub record Inside (x : Packet) : Type 0 where
   pub challenge : x .challenge .start + x .challenge .len ≤ x .length

@@ -2,7 +2,7 @@
 use Prim.Native.Nat.{ℕ, _+_, _≤_}
 use mathlib.Core.Path.{_≡_, refl, sym, ap, _∙_}
 use mathlib.Core.List.{List, []}
-use mathlib.Core.Bool.{Bool, true, false, not, _&&_}
+use mathlib.Core.Bool.{Bool, true, false, not}
 use native.Mathlib.Omega.{arith}
 use lib.ListN.{length, drop}
 use lib.Dec.{ltb, leb, eqb}
@@ -10,7 +10,7 @@ use borrow.Author.Tests.{ltb-false, leb-true, not-false}
 use Rattle.octets.specs.Choice.{pick}
 use Rattle.octets.specs.Lists.{cells, over}
 use Rattle.octets.specs.Octets.{AreOctets, hexAt, decimal}
-use Rattle.octets.proofs.Exits.{pick-true, pick-false, tested}
+use Rattle.octets.proofs.Exits.{pick-true, pick-false, both, tested}
 use Rattle.answer.specs.Outcome.{gives, Outcome, outcome, refused, fitting, Does}
 use Rattle.answer.proofs.Outcomes.{fitting-so}
 use Rattle.packet.specs.declared.End.{End}
@@ -23,10 +23,6 @@ use Rattle.packet.proofs.Sizes.{length-challengePacket, length-successRequest, 
 use Rattle.packet.proofs.Back.{Back, challenge-back, response-back, success-request-back, failure-request-back, success-response-back, failure-response-back, eap-success-back, eap-failure-back}
 use Rattle.writers.specs.Writers.{writing, writeChallenge, writeResponse, writeSuccessRequest, writeFailureRequest, writeSuccessResponse, writeFailureResponse, writeEapSuccess, writeEapFailure}
 use Rattle.writers.proofs.Writing.{writing-so}
-
-both-true : (a b : Bool) → (a && b) ≡ true → (a ≡ true) × (b ≡ true)
-both-true true b e = (refl, e)
-both-true false b e = (e, let z : b ≡ true = cc in z)
 
 -- ---- what was written, answer 0, reads back
 -- answer 0 means that there is a form and room for it
@@ -89,7 +85,7 @@ module _ (old after : List ℕ) (n : ℕ) where
   failure-request-trip id chapid code retry challenge text o d =
       let u = takes _ (length old) (failureRequest id chapid code retry challenge text) (sym (d .answered)) in
       let m = u .most in
-      let f = both-true (leb code 9999999999) (leb retry 1) (u .form) in
+      let f = both (leb code 9999999999) (leb retry 1) (u .form) in
       trip _ Peer _ _ _ _ _ (failure-request-back id chapid code retry challenge text (leb-true _ _ (f .0)) (leb-true _ _ (f .1)) o (omega (arith, length-failureRequest id chapid code retry (length (decimal code)) challenge text refl))) d
 
   pub success-response-trip : (id : ℕ) → Does (writeSuccessResponse id (length old)) 0 n tt old after → ReadsBack Server after (reading SuccessResponse id 0 6 0 nowhere nowhere nowhere) [] [] []

@@ -1,4 +1,4 @@
-// The stateless writers, one for each row of the packet table.
+// The stateless writers, one for each row of the packet table, and one for octets that were written before.
 ghost use mathlib.Core.Path.{_≡_};
 ghost use mathlib.Core.Bool.{true};
 ghost use Prim.Native.Nat.{_+_, _≤_};
