@@ -56,7 +56,7 @@ extern "C" {
 #define ZT_NEEDS_CREDENTIALS 1 /* the peer waits for zt_peer_supply or zt_peer_give_up */
 #define ZT_AUTHENTICATED 2     /* the end; a server has written EAP Success */
 #define ZT_ENDED 3             /* the end, not authenticated; a server has written EAP Failure */
-#define ZT_FRAGMENT 10         /* a packet of fewer than 4 octets */
+#define ZT_SHORT 10            /* a packet of fewer than 4 octets */
 #define ZT_BAD_LENGTH 11       /* Length under 4 or over the octets lent */
 #define ZT_TOO_LONG 12         /* Length over ZT_MAX_PACKET */
 #define ZT_BAD_CODE 13         /* Code not for this end: a peer takes 1, 3, 4, a server 2 */

@@ -89,8 +89,8 @@ static void right_password(void)
     to_server("server, Success Response", ZT_AUTHENTICATED);
     to_peer("peer, EAP Success", ZT_AUTHENTICATED);
     length = 3;
-    to_peer("peer, a packet of 3 octets", ZT_FRAGMENT);
-    to_server("server, a packet of 3 octets", ZT_FRAGMENT);
+    to_peer("peer, a packet of 3 octets", ZT_SHORT);
+    to_server("server, a packet of 3 octets", ZT_SHORT);
 }
 
 static void wrong_passwords(void)

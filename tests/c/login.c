@@ -122,7 +122,7 @@ static void refusals(void)
     ANSWERS(new_peer(HASH), ZT_WRITTEN, 0);
     memcpy(before, peer, sizeof peer);
     memset(reply, 0x5A, sizeof reply);
-    ANSWERS(zt_peer_step(peer, sizeof peer, NULL, 0, FRESH, 16, reply, sizeof reply), ZT_FRAGMENT, 0);
+    ANSWERS(zt_peer_step(peer, sizeof peer, NULL, 0, FRESH, 16, reply, sizeof reply), ZT_SHORT, 0);
     ANSWERS(zt_peer_step(peer, sizeof peer, NULL, 0, FRESH, 15, reply, sizeof reply), ZT_BAD_ARGUMENT, 0);
     ANSWERS(zt_peer_step(peer, sizeof peer - 1, NULL, 0, FRESH, 16, reply, sizeof reply), ZT_BAD_ARGUMENT, 0);
     ANSWERS(start(0), ZT_WRITTEN, 31);

@@ -6,49 +6,25 @@ use mathlib.Core.Bool.{Bool, true, false, not, _&&_}
 use native.Mathlib.Omega.{arith}
 use lib.ListN.{length, take, drop, length-drop}
 use lib.Dec.{eqb}
-use borrow.Author.Tests.{lt-ltb, le-ltb, eq-eqb, eqb-true, eqb-false, not-true, not-false}
+use borrow.Author.Tests.{lt-ltb, le-ltb, eq-eqb, ne-eqb, eqb-true, eqb-false, not-false}
 use Rattle.octets.specs.Choice.{pick}
-use Rattle.octets.specs.Octets.{same}
+use Rattle.octets.specs.Octets.{numberAt, same}
 use Rattle.octets.proofs.Exits.{exits, pick-true, pick-false, passed, tested, and-both, and-first, and-second, gave-not, gave-true, gave-false}
 use Rattle.octets.proofs.Parts.{rest-all}
-use Rattle.answer.specs.Outcome.{Told, gives}
-use Rattle.accounts.specs.Records.{kindOf, framed, head, records, every, sound, entry, placed, entries}
-use Rattle.accounts.specs.Accounts.{codeOf, recordGood, itemGood, wellFormed, isAccountOf, accountIn, earlier, lookupOf, first, accountOf, malformed, holds, seen, findTold}
-use Rattle.accounts.specs.declared.Lookup.{Lookup}
-use Rattle.accounts.specs.declared.Lookup.the-variants.{Absent, Account}
-use Rattle.accounts.specs.declared.Kept.{Kept}
-use Rattle.accounts.specs.declared.Seen.{Seen}
+use Rattle.answer.specs.Outcome.{Told, gives, refuses}
+use Rattle.answer.specs.Sizes.{maxName}
+use Rattle.accounts.specs.Records.{kindOf, framed, head, records, every, sound}
+use Rattle.accounts.specs.Accounts.{codeOf, recordGood, wellFormed, isAccountOf, placed, firstFrom, accountOf, Lookup, absent, account, lookupOf, findTold}
+use Rattle.accounts.specs.declared.Known.{Known}
 use Rattle.accounts.proofs.Records.{next, stops, ends}
 use Rattle.accounts.proofs.Tables.{good-so}
 
-earlier-none : (k : Lookup) → earlier k Absent ≡ k
-earlier-none Absent = refl
-earlier-none (Account code hash) = refl
-
-pub earlier-assoc : (k l m : Lookup) → earlier k (earlier l m) ≡ earlier (earlier k l) m
-earlier-assoc Absent l m = refl
-earlier-assoc (Account code hash) l m = refl
+-- whether there is a record, and it is good
+abbrev itemGood : List ℕ → Bool
+itemGood q = pick (eqb (length q) 0) false (recordGood q)
 
 pub good-formed : (q : List ℕ) → itemGood q ≡ true → recordGood q ≡ true
-unfolding itemGood
 good-formed q g = passed _ _ g .1
-
--- what a walk sees of the records rs from `at` on, with k kept of those before
-unfoldable pub sees : List ℕ → Lookup → ℕ → List (List ℕ) → Seen
-sees user k at rs = pick (every (λ r. framed r && recordGood r) rs) (holds (earlier k (first user (placed at rs)))) malformed
-
-sees-more : (user : List ℕ) (k : Lookup) (at : ℕ) (q : List ℕ) (rs : List (List ℕ)) → framed q ≡ true → recordGood q ≡ true → sees user k at (q ∷ rs) ≡ sees user (earlier k (accountIn user (entry at q))) (at + length q) rs
-unfolding sees every placed first
-sees-more user k at q rs f g =
-    rw (pick-true _ (every (λ r. framed r && recordGood r) rs) false (and-both _ _ f g), earlier-assoc k (accountIn user (entry at q)) _)
-
-sees-bad : (user : List ℕ) (k : Lookup) (at : ℕ) (q : List ℕ) (rs : List (List ℕ)) → (framed q && recordGood q) ≡ false → sees user k at (q ∷ rs) ≡ malformed
-unfolding sees every
-sees-bad user k at q rs f = pick-false _ _ _ (pick-false _ _ _ f)
-
-sees-none : (user : List ℕ) (k : Lookup) (at : ℕ) → sees user k at [] ≡ holds k
-unfolding sees every placed first
-sees-none user k at = pick-true _ _ _ refl ∙ ap holds (earlier-none k)
 
 -- a turn's part at the good record q: whether it is an account of the user
 module _ (user q : List ℕ) (kind : ℕ) (k : kind ≡ kindOf q) (h : kind ≡ 1) where
@@ -59,53 +35,84 @@ module _ (user q : List ℕ) (kind : ℕ) (k : kind ≡ kindOf q) (h : kind ≡ 
   unfolding isAccountOf
   named-same r e = e ∙ ap (λ (l : List ℕ). same l user) (rest-all q 22) ∙ sym (pick-true _ _ _ (eq-eqb _ _ (sym k ∙ h)))
 
--- and what it leaves: what was kept stays, or what q tells, or nothing
-module _ (k : Kept) (user q : List ℕ) (at : ℕ) where
-  pub keep-found : k .found ≡ true → lookupOf k ≡ earlier (lookupOf k) (accountIn user (entry at q))
-  unfolding lookupOf
-  keep-found h = let e = pick-true _ (Account (k .code) (k .hash)) Absent h in rw e refl
+pub keep-here : (user q : List ℕ) (k : Known) (at code : ℕ) (here : Bool) → here ≡ isAccountOf user q → not here ≡ false → k .hash ≡ 0 → code ≡ codeOf q
+    → record { code = code; hash = at + 6 } ≡ pick (not (isAccountOf user q)) k (pick (eqb (k .hash) 0) (record { code = codeOf q; hash = at + 6 }) k)
+keep-here user q k at code here g i h e = rw e (sym (pick-false _ _ _ (gave-not _ _ _ g i) ∙ pick-true _ _ _ (eq-eqb _ _ h)))
 
-  module _ (here : Bool) (g : here ≡ isAccountOf user q) where
-    pub keep-none : not here ≡ true → lookupOf k ≡ earlier (lookupOf k) (accountIn user (entry at q))
-    unfolding accountIn
-    keep-none i = sym (ap (earlier (lookupOf k)) (pick-false _ _ _ (sym g ∙ not-true _ i)) ∙ earlier-none (lookupOf k))
+-- ---- what a walk tells, with an account known of the records before
+abbrev known : Known → Lookup → Lookup
+known k m = pick (eqb (k .hash) 0) m (account (k .code) (k .hash))
 
-    pub keep-here : (code : ℕ) → not here ≡ false → k .found ≡ false → code ≡ codeOf q → Account code (at + 6) ≡ earlier (lookupOf k) (accountIn user (entry at q))
-    unfolding lookupOf accountIn
-    keep-here code i h e = let f = pick-false _ (Account (k .code) (k .hash)) Absent h in rw f (rw e (sym (pick-true _ _ _ (sym g ∙ not-false _ i))))
+module _ (t user : List ℕ) where
+  abbrev told : Told Lookup
+  told = pick (wellFormed t) (gives (lookupOf user (accountOf t user))) (refuses 21 absent)
 
--- ---- the loop: all but l is behind, with k kept of it
-pub record Walking (t user : List ℕ) (k : Lookup) (l : List ℕ) : Type 0 where
+  -- of the records rs from `at` on
+  unfoldable pub sees : Known → ℕ → List (List ℕ) → Told Lookup
+  sees k at rs = pick (every (λ r. framed r && recordGood r) rs) (gives (known k (lookupOf user (firstFrom at user rs)))) (refuses 21 absent)
+
+  sees-bad : (k : Known) (at : ℕ) (q : List ℕ) (rs : List (List ℕ)) → (framed q && recordGood q) ≡ false → sees k at (q ∷ rs) ≡ refuses 21 absent
+  unfolding sees every
+  sees-bad k at q rs f = pick-false _ _ _ (pick-false _ _ _ f)
+
+  sees-none : (k : Known) (at : ℕ) → sees k at [] ≡ gives (known k absent)
+  unfolding sees every firstFrom lookupOf isAccountOf numberAt pick
+  sees-none k at = refl
+
+  -- a turn at the record q
+  module _ (k : Known) (at : ℕ) (q : List ℕ) (rs : List (List ℕ)) where
+    abbrev kept : Known
+    kept = pick (not (isAccountOf user q)) k (pick (eqb (k .hash) 0) (record { code = codeOf q; hash = at + 6 }) k)
+
+    known-more : known k (lookupOf user (firstFrom at user (q ∷ rs))) ≡ known kept (lookupOf user (firstFrom (at + length q) user rs))
+    unfolding firstFrom lookupOf pick
+    known-more = go (isAccountOf user q) refl (eqb (k .hash) 0) refl
+      where
+        m : Lookup
+        m = lookupOf user (firstFrom (at + length q) user rs)
+
+        go : (a : Bool) → isAccountOf user q ≡ a → (b : Bool) → eqb (k .hash) 0 ≡ b
+            → pick b (lookupOf user (pick a (placed at q) (firstFrom (at + length q) user rs))) (account (k .code) (k .hash))
+            ≡ known (pick (not a) k (pick b (record { code = codeOf q; hash = at + 6 }) k)) m
+        go true e true f = pick-true _ _ _ e ∙ sym (pick-false _ m _ (ne-eqb (at + 6) 0 (λ z. omega arith)))
+        go true e false f = sym (pick-false _ _ _ f)
+        go false e true f = sym (pick-true _ _ _ f)
+        go false e false f = sym (pick-false _ _ _ f)
+
+    sees-more : framed q ≡ true → recordGood q ≡ true → sees k at (q ∷ rs) ≡ sees kept (at + length q) rs
+    unfolding sees every
+    sees-more f g = (λ j. pick (pick-true _ (every (λ r. framed r && recordGood r) rs) false (and-both _ _ f g) j) (gives (known-more j)) (refuses 21 absent))
+
+-- ---- the loop: all but l is behind
+pub record Walking (t user : List ℕ) (k : Known) (l : List ℕ) : Type 0 where
   pub most : length l ≤ length t
-  pub is : seen t user ≡ sees user k (length t - length l) (records l)
+  pub is : told t user ≡ sees t user k (length t - length l) (records l)
 
-pub walk-long : (t user : List ℕ) → 65536 < length t → malformed ≡ seen t user
-unfolding seen wellFormed
+pub walk-long : (t user : List ℕ) → 65536 < length t → refuses 21 absent ≡ told t user
+unfolding wellFormed
 walk-long t user h = sym (pick-false _ _ _ (pick-true _ _ _ (lt-ltb _ _ h)))
 
-pub walk-none : (t user : List ℕ) → length t ≤ 65536 → Walking t user Absent t
-unfolding seen wellFormed sound accountOf entries sees
+pub walk-none : (t user : List ℕ) → length t ≤ 65536 → Walking t user (record { code = 0; hash = 0 }) t
+unfolding wellFormed sound accountOf sees pick
 walk-none t user h =
     let e : length t - length t ≡ 0 = omega arith in
-    record { most = omega arith; is = rw e (ap (λ (b : Bool). pick b (holds (accountOf t user)) malformed) (pick-false _ _ _ (le-ltb _ _ h))) }
+    record { most = omega arith; is = rw e (ap (λ (b : Bool). pick b (gives (lookupOf user (accountOf t user))) (refuses 21 absent)) (pick-false _ false (sound recordGood t) (le-ltb _ _ h))) }
 
 -- a turn at the record q, or at none
-module _ (t user : List ℕ) (k : Lookup) (l q : List ℕ) (w : Walking t user k l) (h : 0 < length l) (s : q ≡ head l) where
-  pub walk-bad : itemGood q ≡ false → malformed ≡ seen t user
-  unfolding itemGood
+module _ (t user : List ℕ) (k : Known) (l q : List ℕ) (w : Walking t user k l) (h : 0 < length l) (s : q ≡ head l) where
+  pub walk-bad : itemGood q ≡ false → refuses 21 absent ≡ told t user
   walk-bad g = tested (eqb (length q) 0) none off
     where
-      none : eqb (length q) 0 ≡ true → malformed ≡ seen t user
-      none z = let p = stops l q s h (eqb-true _ _ z) in sym (w .is ∙ ap (sees user k _) (p .is) ∙ sees-bad user k _ l [] (and-first _ _ (p .framed)))
+      none : eqb (length q) 0 ≡ true → refuses 21 absent ≡ told t user
+      none z = let p = stops l q s h (eqb-true _ _ z) in sym (w .is ∙ ap (sees t user k _) (p .is) ∙ sees-bad t user k _ l [] (and-first _ _ (p .framed)))
 
-      off : eqb (length q) 0 ≡ false → malformed ≡ seen t user
+      off : eqb (length q) 0 ≡ false → refuses 21 absent ≡ told t user
       off z =
           let p = next l q s (eqb-false _ _ z) in
-          sym (w .is ∙ ap (sees user k _) (p .is) ∙ sees-bad user k _ q _ (and-second _ _ (p .framed) (sym (pick-false _ _ _ z) ∙ g)))
+          sym (w .is ∙ ap (sees t user k _) (p .is) ∙ sees-bad t user k _ q _ (and-second _ _ (p .framed) (sym (pick-false _ _ _ z) ∙ g)))
 
   module _ (g : itemGood q ≡ true) where
     there : length q ≡ 0 → ⊥
-    unfolding itemGood
     there = eqb-false _ _ (passed _ _ g .0)
 
     pub walk-fits : length q ≤ length l
@@ -114,36 +121,39 @@ module _ (t user : List ℕ) (k : Lookup) (l q : List ℕ) (w : Walking t user k
     pub walk-less : length (take (length l - length q) (drop (length q) l)) < length l
     walk-less = let z : length q ≡ 0 → ⊥ = there in rw (rest-all l (length q)) (omega (arith, length-drop (length q) l))
 
-    pub walk-more : (m : Lookup) → m ≡ earlier k (accountIn user (entry (length t - length l) q)) → Walking t user m (take (length l - length q) (drop (length q) l))
+    pub walk-more : (m : Known) → m ≡ kept t user k (length t - length l) q (records (drop (length q) l)) → Walking t user m (take (length l - length q) (drop (length q) l))
     walk-more m e =
         let p = next l q s there in
         let d = length-drop (length q) l in
         let a : length t - length (drop (length q) l) ≡ length t - length l + length q = omega (arith, w .most) in
         rw (rest-all l (length q)) record {
           most = omega (arith, w .most);
-          is = w .is ∙ ap (sees user k _) (p .is) ∙ sees-more user k _ q _ (p .framed) (good-formed q g) ∙ rw (e, a);
+          is = w .is ∙ ap (sees t user k _) (p .is) ∙ sees-more t user k _ q _ (p .framed) (good-formed q g) ∙ rw (e, a);
         }
 
-pub walk-done : (t user : List ℕ) (k m : Lookup) (l : List ℕ) → Walking t user k l → length l ≤ 0 → m ≡ k → holds m ≡ seen t user
-walk-done t user k m l w h e = ap holds e ∙ sym (w .is ∙ ap (sees user k _) (ends l (omega arith)) ∙ sees-none user k _)
+pub walk-done : (t user : List ℕ) (k : Known) (l : List ℕ) (x : Told Lookup) → Walking t user k l → length l ≤ 0 → x ≡ gives (known k absent) → x ≡ told t user
+walk-done t user k l x w h e = e ∙ sym (w .is ∙ ap (sees t user k _) (ends l (omega arith)) ∙ sees-none t user k _)
 
--- ---- what the walk saw
-module _ (t user : List ℕ) (s : Seen) (e : s ≡ seen t user) where
-  pub seen-sound : s .sound ≡ wellFormed t
-  unfolding seen pick
-  seen-sound = ap (λ (x : Seen). x .sound) e ∙ told (wellFormed t)
+-- ---- what the walk told
+module _ (t user : List ℕ) (x : Told Lookup) (e : x ≡ told t user) (m : Bool) (i : m ≡ eqb (x .number) 21) where
+  pub walk-formed : m ≡ not (wellFormed t)
+  unfolding pick
+  walk-formed = i ∙ ap (λ (y : Told Lookup). eqb (y .number) 21) e ∙ go (wellFormed t)
     where
-      told : (b : Bool) → pick b (holds (accountOf t user)) malformed .sound ≡ b
-      told true = refl
-      told false = refl
+      go : (b : Bool) → eqb (pick b (gives (lookupOf user (accountOf t user))) (refuses 21 absent) .number) 21 ≡ not b
+      go true = refl
+      go false = refl
 
-  pub seen-lookup : s .sound ≡ true → s .lookup ≡ accountOf t user
-  unfolding seen
-  seen-lookup h = ap (λ (x : Seen). x .lookup) (e ∙ pick-true _ _ _ (sym seen-sound ∙ h))
-
-  pub seen-gives : (x : Told Lookup) → not (s .sound) ≡ false → length user ≤ 256 → x ≡ gives (s .lookup) → x ≡ findTold t user
+  pub find-bad : m ≡ true → refuses 21 absent ≡ findTold t user
   unfolding findTold
-  seen-gives x h k f =
-      f ∙ ap gives (seen-lookup (not-false _ h)) ∙ sym (pick-false _ _ _ (gave-not _ _ _ seen-sound h) ∙ pick-false _ _ _ (le-ltb _ _ k))
+  find-bad h = sym (pick-true _ _ _ (sym walk-formed ∙ h))
+
+  pub find-over : m ≡ false → maxName < length user → refuses 23 absent ≡ findTold t user
+  unfolding findTold
+  find-over h l = sym (pick-false _ _ _ (sym walk-formed ∙ h) ∙ pick-true _ _ _ (lt-ltb _ _ l))
+
+  pub find-there : m ≡ false → length user ≤ maxName → x ≡ findTold t user
+  unfolding findTold
+  find-there h l = e ∙ pick-true _ _ _ (not-false _ (sym walk-formed ∙ h)) ∙ sym (pick-false _ _ _ (sym walk-formed ∙ h) ∙ pick-false _ _ _ (le-ltb _ _ l))
 
 pub ruleset walks = (exits, gave-true, gave-false, good-formed, walk-long, walk-none, walk-bad, walk-fits, walk-less, walk-more, walk-done)

@@ -9,13 +9,10 @@ use Rattle.octets.specs.Lists.{part}
 use Rattle.octets.specs.Octets.{numberAt, same}
 use Rattle.octets.specs.declared.Order.the-variants.{Little}
 use Rattle.answer.specs.Outcome.{Told, gives, refuses}
-use Rattle.accounts.specs.Records.{kindOf, sound, Entry, entries}
-use Rattle.accounts.specs.declared.Lookup.{Lookup}
-use Rattle.accounts.specs.declared.Lookup.the-variants as lookup
+use Rattle.answer.specs.Sizes.{maxName}
+use Rattle.accounts.specs.Records.{kindOf, records, sound}
 use Rattle.accounts.specs.declared.Found.{Found}
 use Rattle.accounts.specs.declared.Found.the-variants as found
-use Rattle.accounts.specs.declared.Seen.{Seen}
-use Rattle.accounts.specs.declared.Kept.{Kept}
 
 -- ---- well formed
 -- "Kind 1: code (2 octets little-endian: 0, 646, 647, 648 or 649), hash 16, name; record length 22 to 278"
@@ -25,8 +22,8 @@ codeOf r = numberAt Little r 4
 abbrev pub hashOf : List ℕ → List ℕ
 hashOf r = part r 6 16
 
-abbrev pub nameOf : List ℕ → List ℕ
-nameOf r = drop 22 r
+abbrev pub recordName : List ℕ → List ℕ
+recordName r = drop 22 r
 
 unfoldable pub isCode : ℕ → Bool
 isCode c = eqb c 0 || (eqb c 646 || (eqb c 647 || (eqb c 648 || eqb c 649)))
@@ -44,57 +41,49 @@ wellFormed t = pick (ltb 65536 (length t)) false (sound recordGood t)
 
 -- ---- "The account of a user is the first kind-1 record whose name equals the user octet for octet."
 unfoldable pub isAccountOf : List ℕ → List ℕ → Bool
-isAccountOf user r = pick (eqb (kindOf r) 1) (same (nameOf r) user) false
+isAccountOf user r = pick (eqb (kindOf r) 1) (same (recordName r) user) false
 
--- what a lookup tells of a record: its code, and where in the table its hash begins, if it is an account of the user
-unfoldable pub accountIn : List ℕ → Entry → Lookup
-accountIn user e = pick (isAccountOf user (e .octets)) (lookup.Account (codeOf (e .octets)) (e .place + 6)) lookup.Absent
+-- a record, and its place: where its first octet stands in the table
+pub record Placed : Type 0 where
+  pub place : ℕ
+  pub octets : List ℕ
 
--- the earlier of two
-abbrev pub earlier : Lookup → Lookup → Lookup
-earlier lookup.Absent m = m
-earlier (lookup.Account code hash) m = lookup.Account code hash
+abbrev pub placed : ℕ → List ℕ → Placed
+placed at r = record { place = at; octets = r }
 
-unfoldable pub first : List ℕ → List Entry → Lookup
-first user [] = lookup.Absent
-first user (e ∷ es) = earlier (accountIn user e) (first user es)
+-- of records end to end from the place `at`: the first that is an account of the user; no octets, at their end, where none is
+unfoldable pub firstFrom : ℕ → List ℕ → List (List ℕ) → Placed
+firstFrom at user [] = placed at []
+firstFrom at user (r ∷ rs) = pick (isAccountOf user r) (placed at r) (firstFrom (at + length r) user rs)
 
-unfoldable pub accountOf : List ℕ → List ℕ → Lookup
-accountOf t user = first user (entries t)
+unfoldable pub accountOf : List ℕ → List ℕ → Placed
+accountOf t user = firstFrom 0 user (records t)
+
+abbrev pub recordOf : List ℕ → List ℕ → List ℕ
+recordOf t user = accountOf t user .octets
 
 -- ---- what the calls answer, by 01, "What a call answers"
 -- 21, and else 0
 unfoldable pub checkNumber : List ℕ → ℕ
 checkNumber t = pick (not (wellFormed t)) 21 0
 
+-- no account, or one: its code, and where in the table its hash begins
+pub data Lookup : Type 0 where
+  absent : Lookup
+  account : (code hash : ℕ) → Lookup
+
+unfoldable pub lookupOf : List ℕ → Placed → Lookup
+lookupOf user e = pick (isAccountOf user (e .octets)) (account (codeOf (e .octets)) (e .place + 6)) absent
+
 -- 21, then 23 for a user of more than 256 octets, and else 0 with the account or none
 unfoldable pub findTold : List ℕ → List ℕ → Told Lookup
 findTold t user =
-    pick (not (wellFormed t)) (refuses 21 lookup.Absent)
-    (pick (ltb 256 (length user)) (refuses 23 lookup.Absent)
-    (gives (accountOf t user)))
+    pick (not (wellFormed t)) (refuses 21 absent)
+    (pick (ltb maxName (length user)) (refuses 23 absent)
+    (gives (lookupOf user (accountOf t user))))
 
 abbrev pub toldFound : Found → Told Lookup
-toldFound found.Malformed = refuses 21 lookup.Absent
-toldFound found.BadUser = refuses 23 lookup.Absent
-toldFound found.Absent = gives lookup.Absent
-toldFound (found.Account code hash) = gives (lookup.Account code hash)
-
--- ---- one walk over the table
--- whether there is a record, and it is good
-unfoldable pub itemGood : List ℕ → Bool
-itemGood q = pick (eqb (length q) 0) false (recordGood q)
-
--- what the values that the walk carries stand for
-unfoldable pub lookupOf : Kept → Lookup
-lookupOf k = pick (k .found) (lookup.Account (k .code) (k .hash)) lookup.Absent
-
--- the walk sees that the table is malformed, or what it holds of the user
-abbrev pub malformed : Seen
-malformed = record { sound = false; lookup = lookup.Absent }
-
-abbrev pub holds : Lookup → Seen
-holds k = record { sound = true; lookup = k }
-
-unfoldable pub seen : List ℕ → List ℕ → Seen
-seen t user = pick (wellFormed t) (holds (accountOf t user)) malformed
+toldFound found.Malformed = refuses 21 absent
+toldFound found.BadUser = refuses 23 absent
+toldFound found.Absent = gives absent
+toldFound (found.Account code hash) = gives (account code hash)

@@ -1,5 +1,5 @@
 -- 01, "Account table": octets as records end to end, whatever the kinds of the records.
-use Prim.Native.Nat.{ℕ, zero, suc, _+_, _-_}
+use Prim.Native.Nat.{ℕ, zero, suc, _-_}
 use mathlib.Core.List.{List, [], _∷_}
 use mathlib.Core.Bool.{Bool, true, false, _&&_}
 use lib.ListN.{length, take, drop}
@@ -42,23 +42,6 @@ every p (x ∷ xs) = pick (p x) (every p xs) false
 -- whether the octets are records end to end, each of which passes a test of its kind
 unfoldable pub sound : (List ℕ → Bool) → List ℕ → Bool
 sound good t = every (λ r. framed r && good r) (records t)
-
--- ---- the records with their places
--- a record and its place, where its first octet stands in the table
-pub record Entry : Type 0 where
-  pub place : ℕ
-  pub octets : List ℕ
-
-abbrev pub entry : ℕ → List ℕ → Entry
-entry at r = record { place = at; octets = r }
-
--- records end to end, the first of them at `at`
-unfoldable pub placed : ℕ → List (List ℕ) → List Entry
-placed at [] = []
-placed at (r ∷ rs) = entry at r ∷ placed (at + length r) rs
-
-unfoldable pub entries : List ℕ → List Entry
-entries t = placed 0 (records t)
 
 -- ---- the first record
 -- the record that r begins with; no octets where it begins with none

@@ -5,10 +5,9 @@ use mathlib.Core.List.{List, [], _∷_, _++_, flatten}
 use mathlib.Core.Bool.{true}
 use lib.ListN.{length}
 use Rattle.answer.specs.Outcome.{Told, gives, refuses}
+use Rattle.answer.specs.Sizes.{maxName}
 use Rattle.accounts.specs.Records.{lengthOf, kindOf}
-use Rattle.accounts.specs.Accounts.{codeOf, nameOf, isCode}
-use Rattle.accounts.specs.declared.Lookup.{Lookup}
-use Rattle.accounts.specs.declared.Lookup.the-variants.{Absent, Account}
+use Rattle.accounts.specs.Accounts.{codeOf, recordName, isCode, Placed, Lookup, absent, account}
 
 pub data All {A : Type 0} (P : A → Type 0) : List A → Type 0 where
   none : All P []
@@ -40,21 +39,19 @@ pub record IsTable (t : List ℕ) (rs : List (List ℕ)) : Type 0 where
 -- r is a "kind-1 record whose name equals the user"
 pub record Names (user r : List ℕ) : Type 0 where
   pub kind : kindOf r ≡ 1
-  pub name : nameOf r ≡ user
+  pub name : recordName r ≡ user
 
 abbrev pub NoneNames : List ℕ → List (List ℕ) → Type 0
 NoneNames user rs = All (λ r. Names user r → ⊥) rs
 
--- of rs, end to end from the place `at`, the first that names the user has the code, and the place of its hash
-pub record FirstNames (user : List ℕ) (at : ℕ) (rs : List (List ℕ)) (code hash : ℕ) : Type 0 where
+-- of rs, end to end from the place `at`, e is the first that names the user
+pub record FirstNames (user : List ℕ) (at : ℕ) (rs : List (List ℕ)) (e : Placed) : Type 0 where
   pub before : List (List ℕ)
-  pub account : List ℕ
   pub after : List (List ℕ)
-  pub split : rs ≡ before ++ account ∷ after
+  pub split : rs ≡ before ++ e .octets ∷ after
   pub none : NoneNames user before
-  pub here : Names user account
-  pub coded : code ≡ codeOf account
-  pub hashed : hash ≡ at + length (flatten before) + 6
+  pub here : Names user (e .octets)
+  pub place : e .place ≡ at + length (flatten before)
 
 -- ---- what the calls answer: 21, then 23, and else 0
 pub data Checks (t : List ℕ) : ℕ → Type 0 where
@@ -62,18 +59,7 @@ pub data Checks (t : List ℕ) : ℕ → Type 0 where
   checks-formed : (rs : List (List ℕ)) → IsTable t rs → Checks t 0
 
 pub data Tells (t user : List ℕ) : Told Lookup → Type 0 where
-  tells-malformed : ((rs : List (List ℕ)) → IsTable t rs → ⊥) → Tells t user (refuses 21 Absent)
-  tells-long : (rs : List (List ℕ)) → IsTable t rs → 256 < length user → Tells t user (refuses 23 Absent)
-  tells-absent : (rs : List (List ℕ)) → IsTable t rs → length user ≤ 256 → NoneNames user rs → Tells t user (gives Absent)
-  tells-account : (rs : List (List ℕ)) → IsTable t rs → length user ≤ 256 → {code hash : ℕ} → FirstNames user 0 rs code hash → Tells t user (gives (Account code hash))
-
--- ---- for callers
--- the 16 octets of the hash lie in the table, and the code is one of the five
-pub record Lies (t : List ℕ) (code hash : ℕ) : Type 0 where
-  pub inside : hash + 16 ≤ length t
-  pub coded : isCode code ≡ true
-
--- what a table holds of a user, where it stands n octets further on
-abbrev pub moved : ℕ → Lookup → Lookup
-moved n Absent = Absent
-moved n (Account code hash) = Account code (n + hash)
+  tells-malformed : ((rs : List (List ℕ)) → IsTable t rs → ⊥) → Tells t user (refuses 21 absent)
+  tells-long : (rs : List (List ℕ)) → IsTable t rs → maxName < length user → Tells t user (refuses 23 absent)
+  tells-absent : (rs : List (List ℕ)) → IsTable t rs → length user ≤ maxName → NoneNames user rs → Tells t user (gives absent)
+  tells-account : (rs : List (List ℕ)) → IsTable t rs → length user ≤ maxName → (e : Placed) → FirstNames user 0 rs e → Tells t user (gives (account (codeOf (e .octets)) (e .place + 6)))

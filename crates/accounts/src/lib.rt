@@ -1,11 +1,14 @@
 // The account table of document 01: whether it is well formed, and the account of a user.
 ghost use mathlib.Core.Path.{_≡_};
-ghost use mathlib.Core.Bool.{true};
-ghost use Prim.Native.Nat.{_≤_};
+ghost use mathlib.Core.Bool.{true, false, not};
+ghost use Prim.Native.Nat.{_+_, _≤_};
+ghost use lib.ListN.{length};
+ghost use lib.Dec.{eqb};
+ghost use Rattle.octets.specs.Choice.{pick};
 ghost use Rattle.answer.specs.Answer.{numberOf};
-ghost use Rattle.answer.specs.Outcome.{gives};
-ghost use Rattle.accounts.specs.Records.{head, entry};
-ghost use Rattle.accounts.specs.Accounts.{codeOf, isCode, accountGood, recordGood, itemGood, isAccountOf, accountIn, earlier, lookupOf, seen, checkNumber, findTold, toldFound};
+ghost use Rattle.answer.specs.Outcome.{gives, refuses};
+ghost use Rattle.accounts.specs.Records.{head};
+ghost use Rattle.accounts.specs.Accounts.{codeOf, isCode, accountGood, recordGood, wellFormed, isAccountOf, accountOf, absent, account, lookupOf, checkNumber, findTold, toldFound};
 use answer::Answer;
 use answer::Refusal;
 use octets::Order;
@@ -13,13 +16,7 @@ use octets::equal;
 use octets::number_at;
 use octets::octet;
 
-// What a table holds of a user: no account, or one, with its code and where in the table its hash of 16 octets begins.
-pub enum Lookup {
-    Absent,
-    Account { code: u16, hash: usize },
-}
-
-// What `find` answers: 21, 23, or 0 with what the table holds of the user.
+// What `find` answers: 21, 23, or 0 with no account of the user, or its code and where in the table its hash of 16 octets begins.
 pub enum Found {
     Malformed,
     BadUser,
@@ -27,30 +24,15 @@ pub enum Found {
     Account { code: u16, hash: usize },
 }
 
-// What a walk sees: whether the table is well formed, and if so what it holds of the user.
-struct Seen {
-    sound: bool,
-    lookup: Lookup,
-}
-
-const MALFORMED: Seen = Seen {
-    sound: false,
-    lookup: Lookup::Absent,
-};
-
-// A lookup in the making, as plain values: the walk carries them from record to record.
-struct Kept {
-    found: bool,
+// An account, which the walk carries from record to record as plain values; its hash begins at 0 where none is known.
+struct Known {
     code: u16,
     hash: usize,
 }
 
-const NOTHING: Kept = Kept {
-    found: false,
-    code: 0,
-    hash: 0,
-};
+const NONE: Known = Known { code: 0, hash: 0 };
 
+// The most octets of a user.
 // The record that `left` begins with; no octets where it begins with none.
 fn first_record(left: &[u8]) -> &[u8]
     ensures { λ r. ⌜ now r ≡ head (now (left .entry)) ⌝ }
@@ -116,7 +98,7 @@ fn record_good(item: &[u8]) -> bool
 
 // Whether there is a record, and it keeps to the form of its kind.
 fn item_good(item: &[u8]) -> bool
-    ensures { λ r. ⌜ r ≡ itemGood (now (item .entry)) ⌝ }
+    ensures { λ r. ⌜ r ≡ pick (eqb (length (now (item .entry))) 0) false (recordGood (now (item .entry))) ⌝ }
 {
     if item.len() == 0 {
         return false;
@@ -136,60 +118,63 @@ fn is_account_of(user: &[u8], item: &[u8]) -> bool
     false
 }
 
-// What was kept of the records before, or else what the record at `at` tells: it is looked at in any case.
-fn keep(kept: Kept, user: &[u8], at: usize, item: &[u8]) -> Kept
+// The account found before, or else the record at `at` if it is one: it is looked at in any case.
+fn keep(known: Known, user: &[u8], at: usize, item: &[u8]) -> Known
     requires { ⌜ (at ≤ 65536) × (recordGood (now item) ≡ true) ⌝ }
-    ensures { λ r. ⌜ lookupOf r ≡ earlier (lookupOf kept) (accountIn (now (user .entry)) (entry at (now (item .entry)))) ⌝ }
+    ensures { λ r. ⌜ r ≡ pick (not (isAccountOf (now (user .entry)) (now (item .entry)))) known (pick (eqb (known .hash) 0) (record { code = codeOf (now (item .entry)); hash = at + 6 }) known) ⌝ }
 {
     if !is_account_of(user, item) {
-        return kept;
+        return known;
     }
-    if kept.found {
-        return kept;
+    if known.hash == 0 {
+        let code = code_of(item);
+        return Known { code, hash: at + 6 };
     }
-    let code = code_of(item);
-    Kept {
-        found: true,
-        code,
-        hash: at + 6,
-    }
+    known
 }
 
-fn lookup_of(kept: Kept) -> Lookup
-    ensures { λ r. ⌜ r ≡ lookupOf kept ⌝ }
+fn found_of(known: Known) -> Found
+    ensures { λ r. ⌜ toldFound r ≡ gives (pick (eqb (known .hash) 0) absent (account (known .code) (known .hash))) ⌝ }
 {
-    if kept.found {
-        return Lookup::Account {
-            code: kept.code,
-            hash: kept.hash,
-        };
+    if known.hash == 0 {
+        return Found::Absent;
     }
-    Lookup::Absent
+    Found::Account {
+        code: known.code,
+        hash: known.hash,
+    }
 }
 
 // One walk, which goes on past the user's account to the end of the table.
 // It carries the octets that are left and not a place, which saves an addition from one record to the next.
-fn walk(table: &[u8], user: &[u8]) -> Seen
-    ensures { λ r. ⌜ r ≡ seen (now (table .entry)) (now (user .entry)) ⌝ }
+fn walk(table: &[u8], user: &[u8]) -> Found
+    ensures { λ r. ⌜ toldFound r ≡ pick (wellFormed (now (table .entry))) (gives (lookupOf (now (user .entry)) (accountOf (now (table .entry)) (now (user .entry))))) (refuses 21 absent) ⌝ }
 {
     if 65536 < table.len() {
-        return MALFORMED;
+        return Found::Malformed;
     }
-    let mut kept = NOTHING;
+    let mut known = NONE;
     let mut left = table;
     while 0 < left.len() {
         let item = first_record(left);
         if !item_good(item) {
-            return MALFORMED;
+            return Found::Malformed;
         }
-        kept = keep(kept, user, table.len() - left.len(), item);
+        known = keep(known, user, table.len() - left.len(), item);
         let n = item.len();
         left = &left[n..];
     }
-    let lookup = lookup_of(kept);
-    Seen {
-        sound: true,
-        lookup,
+    found_of(known)
+}
+
+fn is_malformed(found: Found) -> bool
+    ensures { λ r. ⌜ r ≡ eqb (toldFound found .number) 21 ⌝ }
+{
+    match found {
+        Found::Malformed => true,
+        Found::BadUser => false,
+        Found::Absent => false,
+        Found::Account { code, hash } => false,
     }
 }
 
@@ -197,33 +182,23 @@ fn walk(table: &[u8], user: &[u8]) -> Seen
 pub fn check(table: &[u8]) -> Answer
     ensures { λ r. ⌜ numberOf r ≡ checkNumber (now (table .entry)) ⌝ }
 {
-    let s = walk(table, b"");
-    if !s.sound {
+    let found = walk(table, b"");
+    if is_malformed(found) {
         return Answer::Refused(Refusal::BadTable);
     }
     Answer::Written
-}
-
-fn found_of(lookup: Lookup) -> Found
-    ensures { λ r. ⌜ toldFound r ≡ gives lookup ⌝ }
-{
-    match lookup {
-        Lookup::Absent => Found::Absent,
-        Lookup::Account { code, hash } => Found::Account { code, hash },
-    }
 }
 
 // The account of a user, the first in the table that has its name.
 pub fn find(table: &[u8], user: &[u8]) -> Found
     ensures { λ r. ⌜ toldFound r ≡ findTold (now (table .entry)) (now (user .entry)) ⌝ }
 {
-    let s = walk(table, user);
-    if !s.sound {
+    let found = walk(table, user);
+    if is_malformed(found) {
         return Found::Malformed;
     }
-    if 256 < user.len() {
+    if answer::MAX_NAME < user.len() {
         return Found::BadUser;
     }
-    let lookup = s.lookup;
-    found_of(lookup)
+    found
 }

@@ -6,14 +6,14 @@ use lib.ListN.{getD}
 use Rattle.answer.specs.Answer.{numberOf}
 use Rattle.answer.specs.declared.Answer.{Answer}
 use Rattle.answer.specs.declared.Answer.the-variants.{Written, NeedsCredentials, Authenticated, Ended, Refused}
-use Rattle.answer.specs.declared.Refusal.the-variants.{Fragment, BadLength, TooLong, BadCode, BadType, BadOpCode, BadMsLength, BadForm, WrongIdentifier, NotTaken, NoRoom, BadTable, SameChallenge, BadArgument}
+use Rattle.answer.specs.declared.Refusal.the-variants.{Short, BadLength, TooLong, BadCode, BadType, BadOpCode, BadMsLength, BadForm, WrongIdentifier, NotTaken, NoRoom, BadTable, SameChallenge, BadArgument}
 
 -- the answer of each number from 0 to 23; 4 to 9 are no answer's numbers, and anything stands there
 answers : List Answer
 answers =
     Written ∷ NeedsCredentials ∷ Authenticated ∷ Ended
     ∷ Written ∷ Written ∷ Written ∷ Written ∷ Written ∷ Written
-    ∷ Refused Fragment ∷ Refused BadLength ∷ Refused TooLong ∷ Refused BadCode ∷ Refused BadType
+    ∷ Refused Short ∷ Refused BadLength ∷ Refused TooLong ∷ Refused BadCode ∷ Refused BadType
     ∷ Refused BadOpCode ∷ Refused BadMsLength ∷ Refused BadForm ∷ Refused WrongIdentifier ∷ Refused NotTaken
     ∷ Refused NoRoom ∷ Refused BadTable ∷ Refused SameChallenge ∷ Refused BadArgument ∷ []
 
@@ -23,7 +23,7 @@ back Written = refl
 back NeedsCredentials = refl
 back Authenticated = refl
 back Ended = refl
-back (Refused Fragment) = refl
+back (Refused Short) = refl
 back (Refused BadLength) = refl
 back (Refused TooLong) = refl
 back (Refused BadCode) = refl

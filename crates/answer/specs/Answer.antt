@@ -3,10 +3,10 @@ use Prim.Native.Nat.{ℕ}
 use Rattle.answer.specs.declared.Answer.{Answer}
 use Rattle.answer.specs.declared.Answer.the-variants.{Written, NeedsCredentials, Authenticated, Ended, Refused}
 use Rattle.answer.specs.declared.Refusal.{Refusal}
-use Rattle.answer.specs.declared.Refusal.the-variants.{Fragment, BadLength, TooLong, BadCode, BadType, BadOpCode, BadMsLength, BadForm, WrongIdentifier, NotTaken, NoRoom, BadTable, SameChallenge, BadArgument}
+use Rattle.answer.specs.declared.Refusal.the-variants.{Short, BadLength, TooLong, BadCode, BadType, BadOpCode, BadMsLength, BadForm, WrongIdentifier, NotTaken, NoRoom, BadTable, SameChallenge, BadArgument}
 
 abbrev pub refusalOf : Refusal → ℕ
-refusalOf Fragment = 10
+refusalOf Short = 10
 refusalOf BadLength = 11
 refusalOf TooLong = 12
 refusalOf BadCode = 13

@@ -1,2 +1,4 @@
 pub mod Answer
 pub mod Outcome
+pub mod Runs
+pub mod Sizes

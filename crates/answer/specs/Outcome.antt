@@ -1,5 +1,5 @@
 -- 01, "What a call answers": what a call gives, in the paper's numbers.
-use Prim.Native.Nat.{ℕ}
+use Prim.Native.Nat.{ℕ, zero, suc}
 use mathlib.Core.Path.{_≡_}
 use mathlib.Core.List.{List, []}
 use lib.ListN.{length}
@@ -19,6 +19,11 @@ gives x = record { number = 0; n = 0; value = x }
 -- a refusal; beside it stands some value that means nothing
 abbrev pub refuses : {A : Type 0} → ℕ → A → Told A
 refuses k x = record { number = k; n = 0; value = x }
+
+-- what a call tells whose first refusal is k, 0 for none; then it hands out x
+unfoldable pub told : {A : Type 0} → ℕ → A → A → Told A
+told zero none x = gives x
+told (suc k) none x = refuses (suc k) none
 
 -- ---- a call with a reply buffer: its number, the octets that it writes over the buffer's front, the state after it
 pub record Outcome (S : Type 0) : Type 0 where

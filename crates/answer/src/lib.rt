@@ -2,9 +2,14 @@
 ghost use mathlib.Core.Path.{_≡_};
 ghost use Rattle.answer.specs.Answer.{refusalOf, numberOf};
 
+// The most octets of a packet and of a name.
+pub const MAX_PACKET: usize = 1020;
+
+pub const MAX_NAME: usize = 256;
+
 // The refusals, in the order of their numbers, 10 to 23.
 pub enum Refusal {
-    Fragment,
+    Short,
     BadLength,
     TooLong,
     BadCode,
@@ -38,7 +43,7 @@ fn refusal_number(why: Refusal) -> u8
     ensures { λ r. ⌜ r ≡ refusalOf why ⌝ }
 {
     match why {
-        Refusal::Fragment => 10,
+        Refusal::Short => 10,
         Refusal::BadLength => 11,
         Refusal::TooLong => 12,
         Refusal::BadCode => 13,

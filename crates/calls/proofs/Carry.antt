@@ -9,34 +9,34 @@ use borrow.Author.Tests.{ltb-false}
 use Rattle.octets.specs.Choice.{pick}
 use Rattle.octets.proofs.Exits.{pick-true, pick-false, tested, clash}
 use Rattle.answer.specs.Outcome.{Outcome, refused}
+use Rattle.answer.specs.Runs.{run}
 use Rattle.calls.specs.Done.{wordOf, Done, unsized, ended}
-use Rattle.calls.specs.Run.{Seen, seenAt, seen, runAt, shown, run}
+use Rattle.calls.specs.Run.{Shown, shownAt, shown, Carried}
 
 -- a call at the boundary, on n octets, shows the outcome o
 pub record Shows {S : Type 0} (decode : List ℕ → S) (n : ℕ) (d : Done) (o : Outcome S) (reply : List ℕ) : Type 0 where
-  pub same : seenAt decode d ≡ seen o reply
+  pub same : shownAt decode d ≡ shown o reply
   pub long : length (d .state) ≡ n
 
-pub carry : {C S : Type 0} (callAt : C → List ℕ → Done) (call : C → S → Outcome S) (reply : C → List ℕ) (decode : List ℕ → S) (n : ℕ)
-    → ((c : C) (s : List ℕ) → length s ≡ n → Shows decode n (callAt c s) (call c (decode s)) (reply c))
-    → (cs : List C) (s : List ℕ) → length s ≡ n → shown decode (runAt callAt cs s) ≡ run call reply cs (decode s)
-unfolding runAt shown run
-carry callAt call reply decode n f [] s h = refl
-carry {C} {S} callAt call reply decode n f (c ∷ cs) s h =
+pub carry : {C S : Type 0} (decode : List ℕ → S) (n : ℕ) (callAt : List ℕ → C → Done) (call : S → C → Outcome S) (reply : C → List ℕ)
+    → ((c : C) (s : List ℕ) → length s ≡ n → Shows decode n (callAt s c) (call (decode s) c) (reply c)) → Carried decode n callAt call reply
+unfolding run
+carry decode n callAt call reply f [] s h = refl
+carry {C} {S} decode n callAt call reply f (c ∷ cs) s h =
     let z = f c s h in
-    let e : decode (callAt c s .state) ≡ call c (decode s) .state = ap (λ (x : Seen S). x .state) (z .same) in
-    let t : shown decode (runAt callAt cs (callAt c s .state)) ≡ run call reply cs (call c (decode s) .state) = carry callAt call reply decode n f cs (callAt c s .state) (z .long) ∙ ap (run call reply cs) e in
-    (λ i. z .same i ∷ t i)
+    let e : decode (callAt s c .state) ≡ call (decode s) c .state = ap (λ (x : Shown S). x .state) (z .same) in
+    let t = carry decode n callAt call reply f cs (callAt s c .state) (z .long) in
+    (λ i. z .same i ∷ (t ∙ ap (λ (p : S). run (λ (v : Shown S). v .state) (λ (p : S) (c : C). shown (call p c) (reply c)) p cs) e) i)
 
 -- a call of an end leaves a value of its struct, and a refused one the state that it took
-pub record Kept {S : Type 0} (Is : S → Type 0) (p : S) (o : Outcome S) : Type 0 where
+pub record Proper {S : Type 0} (Is : S → Type 0) (p : S) (o : Outcome S) : Type 0 where
   pub is : Is (o .state)
   pub still : 10 ≤ o .number → o .state ≡ p
 
 -- what it did is told so
 pub ended-shows : {S : Type 0} (octetsOf : S → List ℕ) (decode : List ℕ → S) (Is : S → Type 0) (n : ℕ)
     → ((p : S) → Is p → decode (octetsOf p) ≡ p) → ((p : S) → Is p → length (octetsOf p) ≡ n)
-    → (o : Outcome S) (s reply : List ℕ) → length s ≡ n → Kept Is (decode s) o → Shows decode n (ended octetsOf o s reply) o reply
+    → (o : Outcome S) (s reply : List ℕ) → length s ≡ n → Proper Is (decode s) o → Shows decode n (ended octetsOf o s reply) o reply
 unfolding ended
 ended-shows octetsOf decode Is n back long o s reply h k =
     tested (ltb (o .number) 10)

@@ -23,13 +23,13 @@ use Rattle.mschap.specs.Answers.{passwordHashTold, ntResponseTold, authenticato
 use Rattle.peer.specs.declared.Peer.{Peer}
 use Rattle.peer.specs.Calls.{newOf, stepOf, supplyOf, giveUpOf}
 use Rattle.server.specs.declared.Server.{Server}
-use Rattle.server.specs.State.{fresh}
+use Rattle.server.specs.State.{initial}
 use Rattle.server.specs.Calls.{startOf, packetOf, resendOf}
 use Rattle.state.specs.Stored.{stored}
-use Rattle.state.specs.PeerOctets.{peerOf, octetsOfPeer}
-use Rattle.state.specs.ServerOctets.{serverOf, octetsOfServer}
+use Rattle.state.specs.PeerOctets.{peerOctets, peerOf, octetsOfPeer}
+use Rattle.state.specs.ServerOctets.{serverOctets, serverOf, octetsOfServer}
 use Rattle.state.proofs.Puts.{stored-so}
-use Rattle.calls.specs.Done.{wordOf, done, ended, Keeps, made, given, givenBy}
+use Rattle.calls.specs.Done.{wordOf, done, ended, Encoded, made, given, givenBy}
 use Rattle.calls.specs.Ends.{begun, serverNewAt}
 use Rattle.calls.specs.Stateless.{unitAt, unitsOf}
 
@@ -47,49 +47,49 @@ unfolding wordOf
 word-small k n h = omega arith
 
 -- ---- the state is written, or not
-pub keeps-so : (size k m n : ℕ) (q before after : List ℕ) (w : ℕ) → k ≡ m → k < 10 → after ≡ stored size q before → length before ≡ size → w ≡ wordOf k n → Keeps m n q before w after
-keeps-so size k m n q before after w e h f l g = record {
+pub encoded-so : (size k m n : ℕ) (q before after : List ℕ) (w : ℕ) → k ≡ m → k < 10 → after ≡ stored size q before → length before ≡ size → w ≡ wordOf k n → Encoded m n q before w after
+encoded-so size k m n q before after w e h f l g = record {
   answered = g ∙ ap (λ (j : ℕ). wordOf j n) e;
   left = f ∙ stored-so size q before l ∙ sym (pick-true _ _ _ (came-lt k m 10 e h));
 }
 
-pub keeps-not : (k m n : ℕ) (q before : List ℕ) (w : ℕ) → k ≡ m → 10 ≤ k → w ≡ wordOf k n → Keeps m n q before w before
-keeps-not k m n q before w e h g = record {
+pub encoded-not : (k m n : ℕ) (q before : List ℕ) (w : ℕ) → k ≡ m → 10 ≤ k → w ≡ wordOf k n → Encoded m n q before w before
+encoded-not k m n q before w e h g = record {
   answered = g ∙ ap (λ (j : ℕ). wordOf j n) e;
   left = sym (pick-false _ _ _ (came-ge k m 10 e h));
 }
 
 -- ---- an end's call, told in octets
-ended-by : {S : Type 0} (octetsOf : S → List ℕ) (o : Outcome S) (k n : ℕ) (s : S) (state after reply reply′ : List ℕ) (w : ℕ) → Does o k n s reply reply′ → Keeps k n (octetsOf s) state w after → done w after reply′ ≡ ended octetsOf o state reply
+ended-by : {S : Type 0} (octetsOf : S → List ℕ) (o : Outcome S) (k n : ℕ) (s : S) (state after reply reply′ : List ℕ) (w : ℕ) → Does o k n s reply reply′ → Encoded k n (octetsOf s) state w after → done w after reply′ ≡ ended octetsOf o state reply
 unfolding ended
 ended-by octetsOf o k n s state after reply reply′ w d z = rw (z .answered, z .left, d .answered, d .count, d .left, d .written)
 
-pub new-begun : (name hash octets state after : List ℕ) (k n j : ℕ) (p : Peer) (w : ℕ) → Does (newOf name octets) k n p [] [] → octets ≡ hash → after ≡ stored 1647 (octetsOfPeer p) state → length state ≡ 1647 → j ≡ k → w ≡ wordOf j n → done w after [] ≡ begun (newOf name hash)
+pub new-begun : (name hash octets state after : List ℕ) (k n j : ℕ) (p : Peer) (w : ℕ) → Does (newOf name octets) k n p [] [] → octets ≡ hash → after ≡ stored peerOctets (octetsOfPeer p) state → length state ≡ peerOctets → j ≡ k → w ≡ wordOf j n → done w after [] ≡ begun (newOf name hash)
 unfolding begun
-new-begun name hash octets state after k n j p w d e f l g h = rw (h, g, f, stored-so 1647 (octetsOfPeer p) state l, ← e, d .answered, d .count, d .left)
+new-begun name hash octets state after k n j p w d e f l g h = rw (h, g, f, stored-so peerOctets (octetsOfPeer p) state l, ← e, d .answered, d .count, d .left)
 
-pub step-ended : (p : Peer) (state after packet octets random reply reply′ : List ℕ) (k n : ℕ) (s : Peer) (w : ℕ) → Does (stepOf p packet octets (length reply)) k n s reply reply′ → Keeps k n (octetsOfPeer s) state w after → p ≡ peerOf state → octets ≡ random → done w after reply′ ≡ ended octetsOfPeer (stepOf (peerOf state) packet random (length reply)) state reply
+pub step-ended : (p : Peer) (state after packet octets random reply reply′ : List ℕ) (k n : ℕ) (s : Peer) (w : ℕ) → Does (stepOf p packet octets (length reply)) k n s reply reply′ → Encoded k n (octetsOfPeer s) state w after → p ≡ peerOf state → octets ≡ random → done w after reply′ ≡ ended octetsOfPeer (stepOf (peerOf state) packet random (length reply)) state reply
 step-ended p state after packet octets random reply reply′ k n s w d z e f = ended-by octetsOfPeer _ k n s state after reply reply′ w (rw (← e, ← f) d) z
 
-pub supply-ended : (p : Peer) (state after name own hash octets random reply reply′ : List ℕ) (k n : ℕ) (s : Peer) (w : ℕ) → Does (supplyOf p name own octets (length reply)) k n s reply reply′ → Keeps k n (octetsOfPeer s) state w after → p ≡ peerOf state → own ≡ hash → octets ≡ random → done w after reply′ ≡ ended octetsOfPeer (supplyOf (peerOf state) name hash random (length reply)) state reply
+pub supply-ended : (p : Peer) (state after name own hash octets random reply reply′ : List ℕ) (k n : ℕ) (s : Peer) (w : ℕ) → Does (supplyOf p name own octets (length reply)) k n s reply reply′ → Encoded k n (octetsOfPeer s) state w after → p ≡ peerOf state → own ≡ hash → octets ≡ random → done w after reply′ ≡ ended octetsOfPeer (supplyOf (peerOf state) name hash random (length reply)) state reply
 supply-ended p state after name own hash octets random reply reply′ k n s w d z e f g = ended-by octetsOfPeer _ k n s state after reply reply′ w (rw (← e, ← f, ← g) d) z
 
-pub give-up-ended : (p : Peer) (state after : List ℕ) (k n : ℕ) (s : Peer) (w : ℕ) → Does (giveUpOf p) k n s [] [] → Keeps k n (octetsOfPeer s) state w after → p ≡ peerOf state → done w after [] ≡ ended octetsOfPeer (giveUpOf (peerOf state)) state []
+pub give-up-ended : (p : Peer) (state after : List ℕ) (k n : ℕ) (s : Peer) (w : ℕ) → Does (giveUpOf p) k n s [] [] → Encoded k n (octetsOfPeer s) state w after → p ≡ peerOf state → done w after [] ≡ ended octetsOfPeer (giveUpOf (peerOf state)) state []
 give-up-ended p state after k n s w d z e = ended-by octetsOfPeer _ k n s state after [] [] w (rw (← e) d) z
 
-pub start-ended : (p : Server) (state after : List ℕ) (id : Identifier) (octets challenge name : List ℕ) (retries : ℕ) (reply reply′ : List ℕ) (k n : ℕ) (s : Server) (w : ℕ) → Does (startOf p id octets name retries (length reply)) k n s reply reply′ → Keeps k n (octetsOfServer s) state w after → p ≡ serverOf state → octets ≡ challenge → done w after reply′ ≡ ended octetsOfServer (startOf (serverOf state) id challenge name retries (length reply)) state reply
+pub start-ended : (p : Server) (state after : List ℕ) (id : Identifier) (octets challenge name : List ℕ) (retries : ℕ) (reply reply′ : List ℕ) (k n : ℕ) (s : Server) (w : ℕ) → Does (startOf p id octets name retries (length reply)) k n s reply reply′ → Encoded k n (octetsOfServer s) state w after → p ≡ serverOf state → octets ≡ challenge → done w after reply′ ≡ ended octetsOfServer (startOf (serverOf state) id challenge name retries (length reply)) state reply
 start-ended p state after id octets challenge name retries reply reply′ k n s w d z e f = ended-by octetsOfServer _ k n s state after reply reply′ w (rw (← e, ← f) d) z
 
-pub packet-ended : (p : Server) (state after packet table octets challenge reply reply′ : List ℕ) (k n : ℕ) (s : Server) (w : ℕ) → Does (packetOf p packet table octets (length reply)) k n s reply reply′ → Keeps k n (octetsOfServer s) state w after → p ≡ serverOf state → octets ≡ challenge → done w after reply′ ≡ ended octetsOfServer (packetOf (serverOf state) packet table challenge (length reply)) state reply
+pub packet-ended : (p : Server) (state after packet table octets challenge reply reply′ : List ℕ) (k n : ℕ) (s : Server) (w : ℕ) → Does (packetOf p packet table octets (length reply)) k n s reply reply′ → Encoded k n (octetsOfServer s) state w after → p ≡ serverOf state → octets ≡ challenge → done w after reply′ ≡ ended octetsOfServer (packetOf (serverOf state) packet table challenge (length reply)) state reply
 packet-ended p state after packet table octets challenge reply reply′ k n s w d z e f = ended-by octetsOfServer _ k n s state after reply reply′ w (rw (← e, ← f) d) z
 
-pub resend-ended : (p : Server) (state after reply reply′ : List ℕ) (k n : ℕ) (s : Server) (w : ℕ) → Does (resendOf p (length reply)) k n s reply reply′ → Keeps k n (octetsOfServer s) state w after → p ≡ serverOf state → done w after reply′ ≡ ended octetsOfServer (resendOf (serverOf state) (length reply)) state reply
+pub resend-ended : (p : Server) (state after reply reply′ : List ℕ) (k n : ℕ) (s : Server) (w : ℕ) → Does (resendOf p (length reply)) k n s reply reply′ → Encoded k n (octetsOfServer s) state w after → p ≡ serverOf state → done w after reply′ ≡ ended octetsOfServer (resendOf (serverOf state) (length reply)) state reply
 resend-ended p state after reply reply′ k n s w d z e = ended-by octetsOfServer _ k n s state after reply reply′ w (rw (← e) d) z
 
-pub new-server : (state after : List ℕ) (s : Server) → s ≡ fresh → after ≡ stored 304 (octetsOfServer s) state → length state ≡ 304 → done 0 after [] ≡ serverNewAt state
+pub new-server : (state after : List ℕ) (s : Server) → s ≡ initial → after ≡ stored serverOctets (octetsOfServer s) state → length state ≡ serverOctets → done 0 after [] ≡ serverNewAt state
 unfolding serverNewAt
 new-server state after s e f h =
-    let g : after ≡ octetsOfServer fresh = f ∙ stored-so 304 (octetsOfServer s) state h ∙ ap octetsOfServer e in
+    let g : after ≡ octetsOfServer initial = f ∙ stored-so serverOctets (octetsOfServer s) state h ∙ ap octetsOfServer e in
     rw g (sym (pick-true _ _ _ (eq-eqb _ _ h)))
 
 -- ---- a call without a state

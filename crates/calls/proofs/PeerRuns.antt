@@ -13,8 +13,8 @@ use Rattle.peer.specs.declared.Peer.{Peer}
 use Rattle.peer.specs.Calls.{newOf}
 use Rattle.peerlaws.specs.Runs.{Call, step, supply, giveUp, callOf, IsPeer, IsCall}
 use Rattle.peerlaws.proofs.Sizes.{new-is, call-is}
-use Rattle.peerlaws.proofs.Kept.{refused-same}
-use Rattle.state.specs.PeerOctets.{peerOf, octetsOfPeer}
+use Rattle.peerlaws.proofs.Repeats.{refused-same}
+use Rattle.state.specs.PeerOctets.{peerOctets, peerOf, octetsOfPeer}
 use Rattle.state.proofs.Trips.{peer-back, is-peer, length-octets-of-peer}
 use Rattle.calls.specs.Done.{wordOf, ended}
 use Rattle.calls.specs.Ends.{isPeer, isSixteen, begun, peerNewAt, peerStepAt, peerSupplyAt, peerGiveUpAt}
@@ -22,9 +22,9 @@ use Rattle.calls.specs.Run.{PeerCall, makes, steps, supplies, givesUp, p
 use Rattle.calls.proofs.Carry.{Shows, carry, ended-shows, sized-shows}
 
 -- ---- a call on the state: it leaves a value of the struct, and a refused one the state that it took
-peer-ended : (c : Call) (s reply : List ℕ) → length s ≡ 1647 → IsCall c → Shows peerOf 1647 (ended octetsOfPeer (callOf (peerOf s) c) s reply) (callOf (peerOf s) c) reply
+peer-ended : (c : Call) (s reply : List ℕ) → length s ≡ peerOctets → IsCall c → Shows peerOf peerOctets (ended octetsOfPeer (callOf (peerOf s) c) s reply) (callOf (peerOf s) c) reply
 peer-ended c s reply h r =
-    ended-shows octetsOfPeer peerOf IsPeer 1647 peer-back length-octets-of-peer (callOf (peerOf s) c) s reply h
+    ended-shows octetsOfPeer peerOf IsPeer peerOctets peer-back length-octets-of-peer (callOf (peerOf s) c) s reply h
     (record { is = call-is (peerOf s) c r (is-peer s); still = refused-same (peerOf s) c })
 
 -- ---- a peer that is made
@@ -32,7 +32,7 @@ new-quiet : (name hash : List ℕ) → newOf name hash .octets ≡ []
 unfolding newOf
 new-quiet name hash = arms (λ (o : Outcome Peer). o .octets ≡ []) (ltb 256 (length name)) refl refl
 
-new-shows : (name hash : List ℕ) → length hash ≡ 16 → Shows peerOf 1647 (begun (newOf name hash)) (newOf name hash) []
+new-shows : (name hash : List ℕ) → length hash ≡ 16 → Shows peerOf peerOctets (begun (newOf name hash)) (newOf name hash) []
 unfolding begun
 new-shows name hash h =
     let o = newOf name hash in
@@ -43,18 +43,18 @@ new-shows name hash h =
       long = length-octets-of-peer (o .state) z;
     }
 
-peer-shows : (c : PeerCall) (s : List ℕ) → length s ≡ 1647 → Shows peerOf 1647 (peerCallAt c s) (peerCall c (peerOf s)) (peerReply c)
+peer-shows : (c : PeerCall) (s : List ℕ) → length s ≡ peerOctets → Shows peerOf peerOctets (peerCallAt s c) (peerCall (peerOf s) c) (peerReply c)
 unfolding peerNewAt peerStepAt peerSupplyAt peerGiveUpAt callOf
 peer-shows (makes name hash) s h =
-    sized-shows peerOf 1647 (isPeer s) (isSixteen hash) _ s [] _ (eq-eqb _ _ h) h (λ e. new-shows name hash (eqb-true _ _ e))
+    sized-shows peerOf peerOctets (isPeer s) (isSixteen hash) _ s [] _ (eq-eqb _ _ h) h (λ e. new-shows name hash (eqb-true _ _ e))
 peer-shows (steps packet random reply) s h =
-    sized-shows peerOf 1647 (isPeer s) (isSixteen random) _ s reply _ (eq-eqb _ _ h) h (λ e. peer-ended (step packet random (length reply)) s reply h (eqb-true _ _ e))
+    sized-shows peerOf peerOctets (isPeer s) (isSixteen random) _ s reply _ (eq-eqb _ _ h) h (λ e. peer-ended (step packet random (length reply)) s reply h (eqb-true _ _ e))
 peer-shows (supplies name hash random reply) s h =
-    sized-shows peerOf 1647 (isPeer s) (isSixteen hash && isSixteen random) _ s reply _ (eq-eqb _ _ h) h
+    sized-shows peerOf peerOctets (isPeer s) (isSixteen hash && isSixteen random) _ s reply _ (eq-eqb _ _ h) h
     (λ e.
     let f = both (isSixteen hash) (isSixteen random) e in
     peer-ended (supply name hash random (length reply)) s reply h (eqb-true _ _ (f .0), eqb-true _ _ (f .1)))
 peer-shows givesUp s h = rw (pick-true (isPeer s) _ _ (eq-eqb _ _ h)) (peer-ended giveUp s [] h tt)
 
 pub peer-carried : PeerCarried
-peer-carried = carry peerCallAt peerCall peerReply peerOf 1647 peer-shows
+peer-carried = carry peerOf peerOctets peerCallAt peerCall peerReply peer-shows

@@ -31,7 +31,7 @@ ended octetsOf o state reply =
     done (wordOf (o .number) (length (o .octets))) (pick (ltb (o .number) 10) (octetsOf (o .state)) state) (over (o .octets) reply)
 
 -- the word and the state's octets after a call that answered number and n; q are the octets of the state that it left
-pub record Keeps (number n : ℕ) (q before : List ℕ) (word : ℕ) (after : List ℕ) : Type 0 where
+pub record Encoded (number n : ℕ) (q before : List ℕ) (word : ℕ) (after : List ℕ) : Type 0 where
   pub answered : word ≡ wordOf number n
   pub left : after ≡ pick (ltb number 10) q before
 

@@ -8,17 +8,17 @@ use Rattle.octets.specs.Choice.{pick}
 use Rattle.answer.specs.Outcome.{Outcome}
 use Rattle.peer.specs.declared.Peer.{Peer}
 use Rattle.peer.specs.Calls.{newOf, stepOf, supplyOf, giveUpOf}
-use Rattle.server.specs.State.{fresh}
+use Rattle.server.specs.State.{initial}
 use Rattle.server.specs.Calls.{startOf, packetOf, resendOf}
-use Rattle.state.specs.PeerOctets.{peerOf, octetsOfPeer}
-use Rattle.state.specs.ServerOctets.{serverOf, octetsOfServer}
+use Rattle.state.specs.PeerOctets.{peerOctets, peerOf, octetsOfPeer}
+use Rattle.state.specs.ServerOctets.{serverOctets, serverOf, octetsOfServer}
 use Rattle.calls.specs.Done.{wordOf, Done, done, unsized, ended}
 
 abbrev pub isPeer : List ℕ → Bool
-isPeer state = eqb (length state) 1647
+isPeer state = eqb (length state) peerOctets
 
 abbrev pub isServer : List ℕ → Bool
-isServer state = eqb (length state) 304
+isServer state = eqb (length state) serverOctets
 
 -- sixteen octets: hashes, challenges, random octets
 abbrev pub isSixteen : List ℕ → Bool
@@ -55,7 +55,7 @@ peerGiveUpAt state =
 
 -- ---- the server
 unfoldable pub serverNewAt : List ℕ → Done
-serverNewAt state = pick (isServer state) (done 0 (octetsOfServer fresh) []) (unsized state [])
+serverNewAt state = pick (isServer state) (done 0 (octetsOfServer initial) []) (unsized state [])
 
 unfoldable pub serverStartAt : List ℕ → ℕ → List ℕ → List ℕ → ℕ → List ℕ → Done
 serverStartAt state identifier challenge name retries reply =

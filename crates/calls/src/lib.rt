@@ -12,9 +12,9 @@ ghost use Rattle.des.specs.Des.{enciphered};
 ghost use Rattle.mschap.specs.Answers.{passwordHashTold, ntResponseTold, authenticatorTold};
 ghost use Rattle.peer.specs.Calls.{newOf, stepOf, supplyOf, giveUpOf};
 ghost use Rattle.server.specs.Calls.{startOf, packetOf, resendOf};
-ghost use Rattle.state.specs.PeerOctets.{peerOf, octetsOfPeer};
-ghost use Rattle.state.specs.ServerOctets.{serverOf, octetsOfServer};
-ghost use Rattle.calls.specs.Done.{wordOf, done, made, ended, given, givenBy, Keeps};
+ghost use Rattle.state.specs.PeerOctets.{peerOctets, peerOf, octetsOfPeer};
+ghost use Rattle.state.specs.ServerOctets.{serverOctets, serverOf, octetsOfServer};
+ghost use Rattle.calls.specs.Done.{wordOf, done, made, ended, given, givenBy, Encoded};
 ghost use Rattle.calls.specs.Ends.{begun, peerNewAt, peerStepAt, peerSupplyAt, peerGiveUpAt, serverNewAt, serverStartAt, serverPacketAt, serverResendAt};
 ghost use Rattle.calls.specs.Stateless.{unitAt, unitsOf, readAt, md4At, sha1At, passwordHashAt, desAt, ntResponseAt, authenticatorAt};
 use answer::Answer;
@@ -63,8 +63,8 @@ fn response(s: &[u8]) -> [u8; 24]
 // ---- the peer
 // The answer's word; the state is written unless the call was refused.
 fn keep_peer(step: PeerStep, state: &mut [u8]) -> u64
-    requires { ⌜ length (now state) ≡ 1647 ⌝ }
-    ensures { λ r. ⌜ Keeps (numberOf (step .answer)) (step .n) (octetsOfPeer (step .peer)) (now (state .entry)) r (now (state .exit)) ⌝ }
+    requires { ⌜ length (now state) ≡ peerOctets ⌝ }
+    ensures { λ r. ⌜ Encoded (numberOf (step .answer)) (step .n) (octetsOfPeer (step .peer)) (now (state .entry)) r (now (state .exit)) ⌝ }
 {
     let a = step.answer;
     let k = answer::number(a);
@@ -77,7 +77,7 @@ fn keep_peer(step: PeerStep, state: &mut [u8]) -> u64
 }
 
 fn begin_peer(state: &mut [u8], name: &[u8], hash: &[u8]) -> u64
-    requires { ⌜ (length (now state) ≡ 1647) × (length (now hash) ≡ 16) ⌝ }
+    requires { ⌜ (length (now state) ≡ peerOctets) × (length (now hash) ≡ 16) ⌝ }
     ensures { λ r. ⌜ done r (now (state .exit)) [] ≡ begun (newOf (now (name .entry)) (now (hash .entry))) ⌝ }
 {
     let step = Peer::new(name, sixteen(hash));
@@ -101,7 +101,7 @@ pub fn peer_new(state: &mut [u8], name: &[u8], hash: &[u8]) -> u64
 }
 
 fn step_peer(state: &mut [u8], packet: &[u8], random: &[u8], reply: &mut [u8]) -> u64
-    requires { ⌜ (length (now state) ≡ 1647) × (length (now random) ≡ 16) ⌝ }
+    requires { ⌜ (length (now state) ≡ peerOctets) × (length (now random) ≡ 16) ⌝ }
     ensures { λ r. ⌜ done r (now (state .exit)) (now (reply .exit)) ≡ ended octetsOfPeer (stepOf (peerOf (now (state .entry))) (now (packet .entry)) (now (random .entry)) (length (now (reply .entry)))) (now (state .entry)) (now (reply .entry)) ⌝ }
 {
     let p = state::decode_peer(state);
@@ -122,7 +122,7 @@ pub fn peer_step(state: &mut [u8], packet: &[u8], random: &[u8], reply: &mut [u8
 }
 
 fn supply_peer(state: &mut [u8], name: &[u8], hash: &[u8], random: &[u8], reply: &mut [u8]) -> u64
-    requires { ⌜ (length (now state) ≡ 1647) × ((length (now hash) ≡ 16) × (length (now random) ≡ 16)) ⌝ }
+    requires { ⌜ (length (now state) ≡ peerOctets) × ((length (now hash) ≡ 16) × (length (now random) ≡ 16)) ⌝ }
     ensures { λ r. ⌜ done r (now (state .exit)) (now (reply .exit)) ≡ ended octetsOfPeer (supplyOf (peerOf (now (state .entry))) (now (name .entry)) (now (hash .entry)) (now (random .entry)) (length (now (reply .entry)))) (now (state .entry)) (now (reply .entry)) ⌝ }
 {
     let p = state::decode_peer(state);
@@ -152,7 +152,7 @@ pub fn peer_supply(
 }
 
 fn give_up_peer(state: &mut [u8]) -> u64
-    requires { ⌜ length (now state) ≡ 1647 ⌝ }
+    requires { ⌜ length (now state) ≡ peerOctets ⌝ }
     ensures { λ r. ⌜ done r (now (state .exit)) [] ≡ ended octetsOfPeer (giveUpOf (peerOf (now (state .entry)))) (now (state .entry)) [] ⌝ }
 {
     let p = state::decode_peer(state);
@@ -171,8 +171,8 @@ pub fn peer_give_up(state: &mut [u8]) -> u64
 
 // ---- the server
 fn keep_server(step: ServerStep, state: &mut [u8]) -> u64
-    requires { ⌜ length (now state) ≡ 304 ⌝ }
-    ensures { λ r. ⌜ Keeps (numberOf (step .answer)) (step .n) (octetsOfServer (step .server)) (now (state .entry)) r (now (state .exit)) ⌝ }
+    requires { ⌜ length (now state) ≡ serverOctets ⌝ }
+    ensures { λ r. ⌜ Encoded (numberOf (step .answer)) (step .n) (octetsOfServer (step .server)) (now (state .entry)) r (now (state .exit)) ⌝ }
 {
     let a = step.answer;
     let k = answer::number(a);
@@ -203,7 +203,7 @@ fn start_server(
     retries: u64,
     reply: &mut [u8],
 ) -> u64
-    requires { ⌜ (length (now state) ≡ 304) × (length (now challenge) ≡ 16) ⌝ }
+    requires { ⌜ (length (now state) ≡ serverOctets) × (length (now challenge) ≡ 16) ⌝ }
     ensures { λ r. ⌜ done r (now (state .exit)) (now (reply .exit)) ≡ ended octetsOfServer (startOf (serverOf (now (state .entry))) (record { 0 = identifier }) (now (challenge .entry)) (now (name .entry)) retries (length (now (reply .entry)))) (now (state .entry)) (now (reply .entry)) ⌝ }
 {
     let s = state::decode_server(state);
@@ -243,7 +243,7 @@ fn packet_server(
     fresh: &[u8],
     reply: &mut [u8],
 ) -> u64
-    requires { ⌜ (length (now state) ≡ 304) × (length (now fresh) ≡ 16) ⌝ }
+    requires { ⌜ (length (now state) ≡ serverOctets) × (length (now fresh) ≡ 16) ⌝ }
     ensures { λ r. ⌜ done r (now (state .exit)) (now (reply .exit)) ≡ ended octetsOfServer (packetOf (serverOf (now (state .entry))) (now (packet .entry)) (now (table .entry)) (now (fresh .entry)) (length (now (reply .entry)))) (now (state .entry)) (now (reply .entry)) ⌝ }
 {
     let s = state::decode_server(state);
@@ -270,7 +270,7 @@ pub fn server_packet(
 }
 
 fn resend_server(state: &mut [u8], reply: &mut [u8]) -> u64
-    requires { ⌜ length (now state) ≡ 304 ⌝ }
+    requires { ⌜ length (now state) ≡ serverOctets ⌝ }
     ensures { λ r. ⌜ done r (now (state .exit)) (now (reply .exit)) ≡ ended octetsOfServer (resendOf (serverOf (now (state .entry))) (length (now (reply .entry)))) (now (state .entry)) (now (reply .entry)) ⌝ }
 {
     let s = state::decode_server(state);

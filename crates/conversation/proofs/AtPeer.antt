@@ -12,25 +12,26 @@ use Rattle.octets.proofs.Lists.{take-sized}
 use Rattle.octets.proofs.Parts.{sized-part}
 use Rattle.octets.proofs.Decimals.{few-decimal}
 use Rattle.answer.specs.Outcome.{outcome}
+use Rattle.answer.specs.Sizes.{maxName}
 use Rattle.answer.specs.declared.Identifier.{Identifier}
 use Rattle.packet.specs.declared.End.the-variants as end
 use Rattle.packet.specs.declared.Kind.the-variants.{Challenge, SuccessRequest}
 use Rattle.packet.specs.declared.Packet.{Packet}
 use Rattle.packet.specs.Forms.{challengePacket, successRequest, failureRequest, successResponse, failureResponse, eapSuccess, eapFailure}
-use Rattle.packet.specs.Reader.{reading, place, nowhere, failureOf}
+use Rattle.packet.specs.Reader.{reading, place, nowhere, failureOf, challengeIn}
 use Rattle.packet.proofs.Sizes.{length-challengePacket, length-successRequest, length-failureRequest}
 use Rattle.packet.proofs.Back.{Back, challenge-back, success-request-back, failure-request-back, challenge-again, eap-success-back, eap-failure-back}
 use Rattle.mschap.specs.Responses.{digitsOf}
 use Rattle.peer.specs.declared.Peer.{Peer}
 use Rattle.peer.specs.declared.Stage.the-variants.{Begin, ChallengeResponseSent, SuccessResponseSent, FailureResponseSent, Success, Failed}
-use Rattle.peer.specs.State.{nameOf, lastId, responseTo, rightDigits, fresh, staged, answered, responded, kept}
-use Rattle.peer.specs.Calls.{challengeIn, renewedIn, digitsIn, responseIn, respondedTo, stepOf}
+use Rattle.peer.specs.State.{ownName, lastId, responseTo, rightDigits, initial, staged, answered, responded, awaiting}
+use Rattle.peer.specs.Calls.{renewedIn, digitsIn, stepOf}
 use Rattle.peer.proofs.Replies.{length-response-to}
 use Rattle.server.specs.State.{chapOf}
-use Rattle.conversation.proofs.PeerForward.{responds-so, accepts-so, succeeds-so, waits-so, fails-so, ends-so}
+use Rattle.peerlaws.proofs.Forward.{responseIn, responds-so, accepts-so, succeeds-so, waits-so, fails-so, ends-so}
 
 -- ---- a Challenge, at a made peer
-module _ (id : Identifier) (challenge server random name hash padding : List ℕ) (room : ℕ) (sixteen : length challenge ≡ 16) (some : 1 ≤ length server) (few : length server ≤ 256) (named : length name ≤ 256) (own : length random ≡ 16) where
+module _ (id : Identifier) (challenge server random name hash padding : List ℕ) (room : ℕ) (sixteen : length challenge ≡ 16) (some : 1 ≤ length server) (few : length server ≤ maxName) (named : length name ≤ maxName) (own : length random ≡ 16) where
   abbrev q : List ℕ
   q = challengePacket (id .0) (chapOf id .0) challenge server
 
@@ -38,7 +39,7 @@ module _ (id : Identifier) (challenge server random name hash padding : List ℕ
   k = reading Challenge (id .0) (chapOf id .0) (26 + length server) 0 (place 10 16) nowhere (place 26 (length server))
 
   abbrev p : Peer
-  p = fresh Begin name hash
+  p = initial Begin name hash
 
   abbrev w : List ℕ
   w = responseTo (id .0) (chapOf id .0) challenge random name hash
@@ -56,25 +57,22 @@ module _ (id : Identifier) (challenge server random name hash padding : List ℕ
   unfolding challengeIn
   challenge-in = sized-part q 10 16 (omega (arith, size)) ∙ ap (λ (x : List ℕ). part x 10 16) (sym (append-nil q)) ∙ back .challenge-is []
 
-  name-in : nameOf p ≡ name
-  unfolding nameOf fresh
-  name-in = take-sized 256 name named
+  name-in : ownName p ≡ name
+  unfolding ownName initial
+  name-in = take-sized maxName name named
 
   response-in : responseIn p k q random ≡ w
-  unfolding responseIn fresh
+  unfolding initial
   response-in = (λ j. responseTo (id .0) (chapOf id .0) (challenge-in j) random (name-in j) hash)
 
-  responded-in : respondedTo p k q random ≡ responded challenge random (chapOf id) q w p
-  unfolding respondedTo
-  responded-in = (λ j. responded (challenge-in j) random (chapOf id) q (response-in j) p)
-
   pub challenge-answered : 59 + length name ≤ room → stepOf p (q ++ padding) random room ≡ outcome 0 w (responded challenge random (chapOf id) q w p)
-  unfolding fresh
+  unfolding initial
   challenge-answered r =
-      let e : responseIn p k (take (26 + length server) (q ++ padding)) random ≡ w = ap (λ (x : List ℕ). responseIn p k x random) cut ∙ response-in in
-      let f : respondedTo p k (take (26 + length server) (q ++ padding)) random ≡ responded challenge random (chapOf id) q w p = ap (λ (x : List ℕ). respondedTo p k x random) cut ∙ responded-in in
+      let c = take (26 + length server) (q ++ padding) in
+      let e : responseIn p k c random ≡ w = ap (λ (x : List ℕ). responseIn p k x random) cut ∙ response-in in
+      let f : challengeIn k c ≡ challenge = ap (challengeIn k) cut ∙ challenge-in in
       responds-so p (q ++ padding) random room k (back .reads padding) refl refl (rw (e, length-response-to (id .0) (chapOf id .0) challenge random name hash own) r)
-      ∙ (λ j. outcome 0 (e j) (f j))
+      ∙ (λ j. outcome 0 (e j) (responded (f j) random (chapOf id) (cut j) (e j) p))
 
 -- ---- a Success Request with the right string
 module _ (p : Peer) (i chapid : ℕ) (string random padding : List ℕ) (room : ℕ) (octets : AreOctets string) where
@@ -91,7 +89,7 @@ module _ (p : Peer) (i chapid : ℕ) (string random padding : List ℕ) (room : 
   unfolding digitsIn digitsOf
   digits-in = ap (λ (x : List ℕ). part x 11 40) (sym (append-nil granted)) ∙ success-request-back i chapid string [] octets (omega arith) .response-is []
 
-  pub success-accepted : p .stage ≡ ChallengeResponseSent → (lastId p ≡ i → ⊥) → rightDigits p ≡ digitsOf string → 6 ≤ room
+  pub success-accepted : p .stage ≡ ChallengeResponseSent → (i ≡ lastId p → ⊥) → rightDigits p ≡ digitsOf string → 6 ≤ room
       → stepOf p (granted ++ padding) random room ≡ outcome 0 (successResponse i) (answered SuccessResponseSent granted (successResponse i) p)
   success-accepted e d h r =
       accepts-so p (granted ++ padding) random room granting (success-request-back i chapid string [] octets (omega arith) .reads padding) e refl d (ap (digitsIn granting) cut-granted ∙ digits-in ∙ sym h) r
@@ -120,14 +118,14 @@ module _ (p : Peer) (i chapid code retry : ℕ) (c random padding : List ℕ) (r
       ap (λ (x : List ℕ). cells 16 (unhexAt (part x (18 + d) 32))) (sym (append-nil denied)) ∙ ap (λ (x : List ℕ). cells 16 (unhexAt x)) (denied-back .challenge-is []) ∙ challenge-again c e octets
 
   -- R=1
-  pub retry-kept : retry ≡ 1 → length c ≡ 16 → p .stage ≡ ChallengeResponseSent → (lastId p ≡ i → ⊥) → stepOf p (denied ++ padding) random room ≡ outcome 1 [] (kept c (record { 0 = chapid }) denied p)
+  pub retry-awaited : retry ≡ 1 → length c ≡ 16 → p .stage ≡ ChallengeResponseSent → (i ≡ lastId p → ⊥) → stepOf p (denied ++ padding) random room ≡ outcome 1 [] (awaiting c (record { 0 = chapid }) denied p)
   unfolding failureOf pick
-  retry-kept b n e h =
+  retry-awaited b n e h =
       waits-so p (denied ++ padding) random room denying (denied-back .reads padding) e (ap failureOf b) h
-      ∙ (λ j. outcome 1 [] (kept ((ap (renewedIn denying) cut-denied ∙ renewed-in n) j) (record { 0 = chapid }) (cut-denied j) p))
+      ∙ (λ j. outcome 1 [] (awaiting ((ap (renewedIn denying) cut-denied ∙ renewed-in n) j) (record { 0 = chapid }) (cut-denied j) p))
 
   -- R=0
-  pub failure-replied : retry ≡ 0 → p .stage ≡ ChallengeResponseSent → (lastId p ≡ i → ⊥) → 6 ≤ room
+  pub failure-replied : retry ≡ 0 → p .stage ≡ ChallengeResponseSent → (i ≡ lastId p → ⊥) → 6 ≤ room
       → stepOf p (denied ++ padding) random room ≡ outcome 0 (failureResponse i) (answered FailureResponseSent denied (failureResponse i) p)
   unfolding failureOf pick
   failure-replied b e h r =

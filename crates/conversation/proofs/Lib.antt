@@ -1,7 +1,6 @@
-pub mod PeerForward
 pub mod AtPeer
 pub mod AtServer
-pub mod Standing
+pub mod Pending
 pub mod Login
 pub mod Tries
 pub mod Premises

@@ -11,9 +11,9 @@ use Rattle.answer.specs.Outcome.{Outcome, outcome}
 use Rattle.packet.specs.Forms.{header, chapPacket, challengePacket}
 use Rattle.packet.proofs.Sizes.{length-challengePacket}
 use Rattle.peer.specs.declared.Peer.{Peer}
-use Rattle.peer.specs.declared.Stage.the-variants as logger
+use Rattle.peer.specs.declared.Stage.the-variants as peer-stage
 use Rattle.peer.specs.State as peer
-use Rattle.peer.specs.State.{nameOf, lastRequest, lastId, responseTo, digitsTo, rightDigits}
+use Rattle.peer.specs.State.{ownName, lastRequest, lastId, responseTo, digitsTo, rightDigits}
 use Rattle.peer.specs.Calls.{stepOf}
 use Rattle.server.specs.declared.Server.{Server}
 use Rattle.server.specs.State as server
@@ -22,9 +22,9 @@ use Rattle.server.specs.Calls.{startFits}
 use Rattle.server.proofs.Forward.{starts-so}
 use Rattle.conversation.specs.Calls.{Login, Ends, made, started, responded, begun, judged, replied, closed, ended}
 use Rattle.conversation.specs.Login.{Fits, challengeOf, ntResponseOf, responseOf, stringOf, successOf, challenging, responding, granting, confirming, LoginSucceeds}
-use Rattle.conversation.proofs.PeerForward.{makes-so}
+use Rattle.peerlaws.proofs.Forward.{makes-so}
 use Rattle.conversation.proofs.AtPeer.{challenge-answered}
-use Rattle.conversation.proofs.Standing.{Stands, stored-id, grants-so, confirms-so, closes-so, ends-so}
+use Rattle.conversation.proofs.Pending.{Pending, stored-id, grants-so, confirms-so, closes-so, ends-so}
 
 -- a start's arguments
 start-fits : (n retries : ℕ) → 1 ≤ n → n ≤ 256 → retries ≤ 10 → startFits n retries ≡ true
@@ -33,14 +33,14 @@ start-fits n retries a b c = pick-false _ _ _ (ne-eqb n 0 (λ z. absurd (omega a
 
 -- ---- up to the first Response
 module _ (l : Login) (f : Fits l) where
-  makes : made l ≡ outcome 0 [] (peer.fresh logger.Begin (l .credentials .name) (l .credentials .hash))
+  makes : made l ≡ outcome 0 [] (peer.initial peer-stage.Begin (l .credentials .name) (l .credentials .hash))
   unfolding made
   makes = makes-so (l .credentials .name) (l .credentials .hash) (f .credentials .name)
 
   starts : started l ≡ outcome 0 (challengeOf l) (challenging l)
-  unfolding started challengeOf challenging server.fresh
+  unfolding started challengeOf challenging server.initial
   starts =
-      starts-so server.fresh (l .id) (l .challenge) (l .server) (l .retries) (l .room) refl (f .challenge) (start-fits _ _ (f .server-some) (f .server-few) (f .retries)) (f .challenge-room)
+      starts-so server.initial (l .id) (l .challenge) (l .server) (l .retries) (l .room) refl (f .challenge) (start-fits _ _ (f .server-some) (f .server-few) (f .retries)) (f .challenge-room)
 
   responds : responded l ≡ outcome 0 (responseOf l) (responding l)
   unfolding responded responding challengeOf responseOf ntResponseOf responseTo
@@ -60,12 +60,12 @@ module _ (l : Login) (f : Fits l) where
   asked-id = stored-id (challengeOf l) (l .id .0) (omega (arith, length-challengePacket (l .id .0) (chapOf (l .id) .0) (l .challenge) (l .server) (f .challenge), f .server-few)) refl
 
   right-digits : rightDigits (responding l) ≡ digitsTo (l .challenge) (l .credentials .random) (l .credentials .name) (l .credentials .hash)
-  unfolding rightDigits responding peer.responded peer.fresh nameOf
+  unfolding rightDigits responding peer.responded peer.initial ownName
   right-digits = ap (λ (n : List ℕ). digitsTo (l .challenge) (l .credentials .random) n (l .credentials .hash)) (take-sized 256 (l .credentials .name) (f .credentials .name))
 
-  pub begun-stands : Stands first (l .credentials)
+  pub begun-pending : Pending first (l .credentials)
   unfolding challenging server.asked responding peer.responded responseOf ntResponseOf
-  begun-stands = record {
+  begun-pending = record {
     named = f .credentials .name;
     own = f .credentials .random;
     server-here = refl;
@@ -79,7 +79,7 @@ module _ (l : Login) (f : Fits l) where
 pub login-succeeds : LoginSucceeds
 unfolding server.staged peer.staged stringOf ntResponseOf successOf challenging server.asked granting confirming
 login-succeeds l f a =
-    let t = begun-stands l f in
+    let t = begun-pending l f in
     let e = begun-is l f in
     let c = l .credentials in
     let closes = ap (closed l) e ∙ closes-so l (first l f) c f t a in

@@ -11,29 +11,27 @@ use Rattle.answer.specs.Outcome.{Outcome, outcome}
 use Rattle.answer.specs.declared.Identifier.{Identifier}
 use Rattle.packet.specs.Forms.{header, chapPacket, responsePacket, failureRequest, failureResponse, eapFailure}
 use Rattle.packet.proofs.Sizes.{length-failureRequest}
-use Rattle.accounts.proofs.Lookups.{account-lies}
 use Rattle.mschap.specs.Users.{userOf}
 use Rattle.mschap.specs.Responses.{ntResponse}
 use Rattle.peer.specs.declared.Peer.{Peer}
-use Rattle.peer.specs.declared.Stage.the-variants as logger
+use Rattle.peer.specs.declared.Stage.the-variants as peer-stage
 use Rattle.peer.specs.State as peer
-use Rattle.peer.specs.State.{nameOf, lastRequest, lastId, responseTo, digitsTo, rightDigits}
-use Rattle.peer.specs.Calls.{stepOf, responseBy, suppliedBy, supplyOf}
+use Rattle.peer.specs.State.{ownName, lastRequest, lastId, responseTo, digitsTo, rightDigits}
+use Rattle.peer.specs.Calls.{stepOf, responseBy, supplyOf}
 use Rattle.peer.proofs.Replies.{length-response-to}
 use Rattle.server.specs.declared.Server.{Server}
 use Rattle.server.specs.declared.Stage.the-variants as stage
 use Rattle.server.specs.State as server
-use Rattle.server.specs.State.{nextId, chapOf}
-use Rattle.server.specs.Calls.{packetOf}
-use Rattle.server.specs.Effects.{failing}
+use Rattle.server.specs.State.{nextId, chapOf, failureTo}
+use Rattle.server.specs.Calls.{failing, authenticationFailure, final, packetOf}
 use Rattle.conversation.specs.Calls.{ToServer, Credentials, Login, Ends, begun, judged, replied, closed, ended, Try, denied, waited, supplied, tried, triedAll}
 use Rattle.conversation.specs.Login.{Fits, RightAccount, challenging}
 use Rattle.conversation.specs.Tries.{Denial, WrongTry, AllWrong, lastChallenge, lastCredentials, AskedAgain, Reaches, last, outstanding, Rejected, exhausted, barred, TriesSucceed, TriesFail}
-use Rattle.conversation.proofs.PeerForward.{supplies-so}
-use Rattle.conversation.proofs.AtPeer.{retry-kept, failure-replied, failure-ended}
-use Rattle.conversation.proofs.AtServer.{code-three, response-retried, response-refused, response-barred, failure-confirmed}
-use Rattle.conversation.proofs.Standing.{Stands, next-new, stored-id, answered-id, grants-so, confirms-so, closes-so, ends-so}
-use Rattle.conversation.proofs.Login.{first, begun-is, begun-stands}
+use Rattle.peerlaws.proofs.Forward.{supplies-so}
+use Rattle.conversation.proofs.AtPeer.{retry-awaited, failure-replied, failure-ended}
+use Rattle.conversation.proofs.AtServer.{code-three, account-code, response-retried, response-refused, response-barred, failure-confirmed}
+use Rattle.conversation.proofs.Pending.{Pending, next-new, stored-id, answered-id, grants-so, confirms-so, closes-so, ends-so}
+use Rattle.conversation.proofs.Login.{first, begun-is, begun-pending}
 
 -- a Failure Request's size and Identifier
 short : (id chapid code retry : ℕ) (c : List ℕ) → length (failureRequest id chapid code retry c []) ≤ 1020
@@ -44,12 +42,12 @@ unfolding failureRequest chapPacket header
 request-id id chapid code retry c = refl
 
 -- ---- one wrong try, with a retry left
-module _ (b : Ends) (c : Credentials) (t : Try) (here : Stands b c) (w : WrongTry (b .server .challenge) c t) (left : b .server .retries ≡ 0 → ⊥) where
+module _ (b : Ends) (c : Credentials) (t : Try) (here : Pending b c) (w : WrongTry (b .server .request .challenge) c t) (left : b .server .retries ≡ 0 → ⊥) where
   abbrev s : Server
   s = b .server
 
   abbrev next : Identifier
-  next = nextId (s .id)
+  next = nextId (s .request .id)
 
   abbrev fresh : List ℕ
   fresh = t .at-response .fresh
@@ -58,13 +56,13 @@ module _ (b : Ends) (c : Credentials) (t : Try) (here : Stands b c) (w : WrongTr
   d = t .credentials
 
   abbrev request : List ℕ
-  request = failureRequest (next .0) (chapOf next .0) 691 1 fresh []
+  request = failureTo next authenticationFailure 1 fresh
 
   abbrev asking : Server
-  asking = server.asked (s .stage) next fresh (s .retries - 1) request
+  asking = server.asked (s .stage) next fresh (s .retries - 1) request s
 
   abbrev waiting : Peer
-  waiting = peer.kept fresh (chapOf next) request (b .peer)
+  waiting = peer.awaiting fresh (chapOf next) request (b .peer)
 
   abbrev response : List ℕ
   response = responseTo (next .0) (chapOf next .0) fresh (d .random) (d .name) (d .hash)
@@ -82,26 +80,22 @@ module _ (b : Ends) (c : Credentials) (t : Try) (here : Stands b c) (w : WrongTr
   unfolding waited
   waits =
       (λ j. stepOf (b .peer) (denies j .octets ++ t .at-request .padding) (t .at-request .random) (t .at-request .room))
-      ∙ retry-kept (b .peer) (next .0) (chapOf next .0) 691 1 fresh (t .at-request .random) (t .at-request .padding) (t .at-request .room) (omega arith) (omega arith) (w .denial .octets) refl (w .fresh) (here .peer-here) (next-new (b .peer) (s .id) (here .id))
+      ∙ retry-awaited (b .peer) (next .0) (chapOf next .0) 691 1 fresh (t .at-request .random) (t .at-request .padding) (t .at-request .room) (omega arith) (omega arith) (w .denial .octets) refl (w .fresh) (here .peer-here) (next-new (b .peer) (s .request .id) (here .id))
 
   waiting-id : lastId waiting ≡ next .0
-  unfolding lastId lastRequest peer.kept
+  unfolding lastId lastRequest peer.awaiting
   waiting-id = stored-id request (next .0) (short _ _ 691 1 fresh) (request-id _ _ 691 1 fresh)
 
   response-is : responseBy waiting (d .name) (d .hash) (d .random) ≡ response
-  unfolding responseBy peer.kept
+  unfolding responseBy peer.awaiting
   response-is = ap (λ (i : ℕ). responseTo i (chapOf next .0) fresh (d .random) (d .name) (d .hash)) waiting-id
 
-  supplied-is : suppliedBy waiting (d .name) (d .hash) (d .random) ≡ answering
-  unfolding suppliedBy
-  supplied-is = ap (λ (x : List ℕ). peer.supplied (d .name) (d .hash) (d .random) x waiting) response-is
-
   supplies : supplied b t ≡ outcome 0 response answering
-  unfolding supplied peer.kept
+  unfolding supplied peer.awaiting
   supplies =
       (λ j. supplyOf (waits j .state) (d .name) (d .hash) (d .random) (t .room))
       ∙ supplies-so waiting (d .name) (d .hash) (d .random) (t .room) refl (w .credentials .name) (rw (response-is, length-response-to (next .0) (chapOf next .0) fresh (d .random) (d .name) (d .hash) (w .credentials .random)) (w .credentials .response))
-      ∙ (λ j. outcome 0 (response-is j) (supplied-is j))
+      ∙ (λ j. outcome 0 (response-is j) (peer.supplied (d .name) (d .hash) (d .random) (response-is j) waiting))
 
   abbrev there : Ends
   there = record { server = asking; peer = answering; response = response }
@@ -111,16 +105,16 @@ module _ (b : Ends) (c : Credentials) (t : Try) (here : Stands b c) (w : WrongTr
   tried-is = (λ j. record { server = denies j .state; peer = supplies j .state; response = supplies j .octets })
 
   answering-id : lastId answering ≡ next .0
-  unfolding lastId lastRequest peer.supplied peer.kept
+  unfolding lastId lastRequest peer.supplied peer.awaiting
   answering-id = stored-id request (next .0) (short _ _ 691 1 fresh) (request-id _ _ 691 1 fresh)
 
   answering-digits : rightDigits answering ≡ digitsTo fresh (d .random) (d .name) (d .hash)
-  unfolding rightDigits nameOf peer.supplied peer.kept
+  unfolding rightDigits ownName peer.supplied peer.awaiting
   answering-digits = ap (λ (n : List ℕ). digitsTo fresh (d .random) n (d .hash)) (take-sized 256 (d .name) (w .credentials .name))
 
-  tried-stands : Stands there d
+  tried-pending : Pending there d
   unfolding server.asked peer.supplied responseTo
-  tried-stands = record {
+  tried-pending = record {
     named = w .credentials .name;
     own = w .credentials .random;
     server-here = here .server-here;
@@ -133,33 +127,33 @@ module _ (b : Ends) (c : Credentials) (t : Try) (here : Stands b c) (w : WrongTr
 -- ---- any number of them, up to the retries that are left
 pub record After (b : Ends) (c : Credentials) (ts : List Try) : Type 0 where
   pub go : AskedAgain b ts
-  pub stands : Stands (triedAll b ts) (lastCredentials c ts)
-  pub challenge : triedAll b ts .server .challenge ≡ lastChallenge (b .server .challenge) ts
+  pub pending : Pending (triedAll b ts) (lastCredentials c ts)
+  pub challenge : triedAll b ts .server .request .challenge ≡ lastChallenge (b .server .request .challenge) ts
   pub left : triedAll b ts .server .retries + length ts ≡ b .server .retries
 
-after : (b : Ends) (c : Credentials) (ts : List Try) → Stands b c → length ts ≤ b .server .retries → AllWrong (b .server .challenge) c ts → After b c ts
+after : (b : Ends) (c : Credentials) (ts : List Try) → Pending b c → length ts ≤ b .server .retries → AllWrong (b .server .request .challenge) c ts → After b c ts
 unfolding triedAll server.asked
-after b c [] here h w = record { go = tt; stands = here; challenge = refl; left = omega arith }
+after b c [] here h w = record { go = tt; pending = here; challenge = refl; left = omega arith }
 after b c (t ∷ ts) here h w =
     let n : b .server .retries ≡ 0 → ⊥ = λ z. absurd (omega arith) in
     let e = tried-is b c t here (w .0) n in
-    let rest = after (there b c t here (w .0) n) (t .credentials) ts (tried-stands b c t here (w .0) n) (omega arith) (w .1) in
+    let rest = after (there b c t here (w .0) n) (t .credentials) ts (tried-pending b c t here (w .0) n) (omega arith) (w .1) in
     let rest′ : After (tried b t) (t .credentials) ts = rw e rest in
-    let k : tried b t .server .challenge ≡ t .at-response .fresh = ap (λ (x : Ends). x .server .challenge) e in
+    let k : tried b t .server .request .challenge ≡ t .at-response .fresh = ap (λ (x : Ends). x .server .request .challenge) e in
     let m : tried b t .server .retries ≡ b .server .retries - 1 = ap (λ (x : Ends). x .server .retries) e in
     record {
       go = (ap (λ (o : Outcome Server). o .number) (denies b c t here (w .0) n), ap (λ (o : Outcome Peer). o .number) (waits b c t here (w .0) n), ap (λ (o : Outcome Peer). o .number) (supplies b c t here (w .0) n), rest′ .go);
-      stands = rest′ .stands;
+      pending = rest′ .pending;
       challenge = rest′ .challenge ∙ ap (λ (x : List ℕ). lastChallenge x ts) k;
       left = omega (arith, rest′ .left);
     }
 
 after-begun : (l : Login) (ts : List Try) → Fits l → length ts ≤ l .retries → AllWrong (l .challenge) (l .credentials) ts → After (begun l) (l .credentials) ts
 unfolding challenging server.asked
-after-begun l ts f h w = rw (begun-is l f) (after (first l f) (l .credentials) ts (begun-stands l f) h w)
+after-begun l ts f h w = rw (begun-is l f) (after (first l f) (l .credentials) ts (begun-pending l f) h w)
 
 -- ---- the last Response is right, and its account's code 0
-succeeds : (l : Login) (b : Ends) (c : Credentials) → Fits l → Stands b c → RightAccount l c → Reaches l b 2 stage.Success logger.Success
+succeeds : (l : Login) (b : Ends) (c : Credentials) → Fits l → Pending b c → RightAccount l c → Reaches l b 2 stage.Success peer-stage.Success
 unfolding server.staged peer.staged
 succeeds l b c f t a =
     let closes = closes-so l b c f t a in
@@ -174,24 +168,24 @@ succeeds l b c f t a =
     }
 
 -- ---- the last Response brings a Failure Request R=0 with some code
-module _ (l : Login) (b : Ends) (c : Credentials) (f : Fits l) (t : Stands b c) (code : ℕ) (small : code ≤ 999) (octets : AreOctets (l .at-response .fresh)) (is : judged l b ≡ failing (b .server) stage.FailureRequestSent (b .server .retries) code 0 (l .at-response .fresh)) where
+module _ (l : Login) (b : Ends) (c : Credentials) (f : Fits l) (t : Pending b c) (code : ℕ) (small : code ≤ 999) (octets : AreOctets (l .at-response .fresh)) (is : judged l b ≡ failing (b .server) (final (b .server) code) (l .at-response .fresh)) where
   abbrev i : ℕ
-  i = nextId (b .server .id) .0
+  i = nextId (b .server .request .id) .0
 
   abbrev q : List ℕ
-  q = failureRequest i (chapOf (nextId (b .server .id)) .0) code 0 (l .at-response .fresh) []
+  q = failureTo (nextId (b .server .request .id)) code 0 (l .at-response .fresh)
 
   abbrev refusing : Server
-  refusing = server.asked stage.FailureRequestSent (nextId (b .server .id)) (l .at-response .fresh) (b .server .retries) q
+  refusing = server.asked stage.FailureRequestSent (nextId (b .server .request .id)) (l .at-response .fresh) (b .server .retries) q (b .server)
 
   abbrev giving : Peer
-  giving = peer.answered logger.FailureResponseSent q (failureResponse i) (b .peer)
+  giving = peer.answered peer-stage.FailureResponseSent q (failureResponse i) (b .peer)
 
   replies : replied l b ≡ outcome 0 (failureResponse i) giving
   unfolding replied
   replies =
       (λ j. stepOf (b .peer) (is j .octets ++ l .at-request .padding) (l .at-request .random) (l .at-request .room))
-      ∙ failure-replied (b .peer) i (chapOf (nextId (b .server .id)) .0) code 0 (l .at-response .fresh) (l .at-request .random) (l .at-request .padding) (l .at-request .room) small (omega arith) octets refl (t .peer-here) (next-new (b .peer) (b .server .id) (t .id)) (f .reply-room)
+      ∙ failure-replied (b .peer) i (chapOf (nextId (b .server .request .id)) .0) code 0 (l .at-response .fresh) (l .at-request .random) (l .at-request .padding) (l .at-request .room) small (omega arith) octets refl (t .peer-here) (next-new (b .peer) (b .server .request .id) (t .id)) (f .reply-room)
 
   closes : closed l b ≡ outcome 3 (eapFailure i) (server.staged stage.Failed refusing)
   unfolding closed server.asked
@@ -199,13 +193,13 @@ module _ (l : Login) (b : Ends) (c : Credentials) (f : Fits l) (t : Stands b c) 
       (λ j. packetOf (is j .state) (replies j .octets ++ l .at-reply .padding) (l .at-reply .table) (l .at-reply .fresh) (l .at-reply .room))
       ∙ failure-confirmed refusing (l .at-reply .padding) (l .at-reply .table) (l .at-reply .fresh) (l .at-reply .room) (f .end-room) refl
 
-  ends : ended l b ≡ outcome 3 [] (peer.staged logger.Failed giving)
+  ends : ended l b ≡ outcome 3 [] (peer.staged peer-stage.Failed giving)
   unfolding ended peer.answered
   ends =
       (λ j. stepOf (replies j .state) (closes j .octets ++ l .at-end .padding) (l .at-end .random) (l .at-end .room))
       ∙ failure-ended giving i (l .at-end .padding) (l .at-end .random) (l .at-end .room) (answered-id _ q _ (b .peer) i (short _ _ code 0 _) (request-id _ _ code 0 _)) refl
 
-  fails : Reaches l b 3 stage.Failed logger.Failed
+  fails : Reaches l b 3 stage.Failed peer-stage.Failed
   unfolding server.staged peer.staged
   fails = record {
     request = ap (λ (o : Outcome Server). o .number) is;
@@ -220,34 +214,34 @@ module _ (l : Login) (b : Ends) (c : Credentials) (f : Fits l) (t : Stands b c) 
 pub tries-succeed : TriesSucceed
 tries-succeed l ts f h w a =
     let x = after-begun l ts f h w in
-    (x .go, succeeds l (triedAll (begun l) ts) (lastCredentials (l .credentials) ts) f (x .stands) a)
+    (x .go, succeeds l (triedAll (begun l) ts) (lastCredentials (l .credentials) ts) f (x .pending) a)
 
 -- what the last Response brings, where it is refused
-module _ (l : Login) (ts : List Try) (b : Ends) (f : Fits l) (t : Stands b (last l ts)) (n : Denial (b .server .challenge) (l .at-response)) (same : b .server .challenge ≡ outstanding l ts) (left : b .server .retries + length ts ≡ l .retries) where
+module _ (l : Login) (ts : List Try) (b : Ends) (f : Fits l) (t : Pending b (last l ts)) (n : Denial (b .server .request .challenge) (l .at-response)) (same : b .server .request .challenge ≡ outstanding l ts) (left : b .server .retries + length ts ≡ l .retries) where
   abbrev c : Credentials
   c = last l ts
 
   abbrev a : ToServer
   a = l .at-response
 
-  brought : judged l b ≡ packetOf (b .server) (responsePacket (b .server .id .0) (b .server .chapid .0) (c .random) (ntResponse (b .server .challenge) (c .random) (userOf (c .name)) (c .hash)) (c .name) ++ a .padding) (a .table) (a .fresh) (a .room)
+  brought : judged l b ≡ packetOf (b .server) (responsePacket (b .server .request .id .0) (b .server .request .chapid .0) (c .random) (ntResponse (b .server .request .challenge) (c .random) (userOf (c .name)) (c .hash)) (c .name) ++ a .padding) (a .table) (a .fresh) (a .room)
   unfolding judged
   brought = ap (λ (q : List ℕ). packetOf (b .server) (q ++ a .padding) (a .table) (a .fresh) (a .room)) (t .response)
 
-  refuses : Rejected l ts → Reaches l b 3 stage.Failed logger.Failed
+  refuses : Rejected l ts → Reaches l b 3 stage.Failed peer-stage.Failed
   refuses (exhausted e w) =
       fails l b c f t 691 (omega arith) (n .octets)
       (brought
       ∙ response-refused (b .server) (c .random) (c .name) (c .hash) (a .padding) (a .table) (a .fresh) (a .room) (t .named) (t .own) (t .server-here) (n .formed) (rw same w) (n .differs) (n .room) (omega arith))
-  refuses (barred code place e h z) =
-      fails l b c f t code (code-three code (account-lies (a .table) (userOf (c .name)) code place (n .formed) e .coded) z .1) (n .octets)
+  refuses (barred code h z) =
+      fails l b c f t code (code-three code (account-code (a .table) (userOf (c .name)) code (c .hash) (n .formed) h) z .1) (n .octets)
       (brought
-      ∙ response-barred (b .server) (c .random) (c .name) (c .hash) (a .padding) (a .table) (a .fresh) (a .room) (t .named) (t .own) (t .server-here) (n .formed) code place e h z (n .differs) (n .room))
+      ∙ response-barred (b .server) (c .random) (c .name) (c .hash) (a .padding) (a .table) (a .fresh) (a .room) (t .named) (t .own) (t .server-here) (n .formed) code h z (n .differs) (n .room))
 
 pub tries-fail : TriesFail
 unfolding challenging server.asked
 tries-fail l ts f h w n r =
     let x = after-begun l ts f h w in
     let e = begun-is l f in
-    let k : triedAll (begun l) ts .server .challenge ≡ outstanding l ts = x .challenge ∙ ap (λ (b : Ends). lastChallenge (b .server .challenge) ts) e in
-    (x .go, refuses l ts (triedAll (begun l) ts) f (x .stands) (rw k n) k (x .left ∙ ap (λ (b : Ends). b .server .retries) e) r)
+    let k : triedAll (begun l) ts .server .request .challenge ≡ outstanding l ts = x .challenge ∙ ap (λ (b : Ends). lastChallenge (b .server .request .challenge) ts) e in
+    (x .go, refuses l ts (triedAll (begun l) ts) f (x .pending) (rw k n) k (x .left ∙ ap (λ (b : Ends). b .server .retries) e) r)

@@ -7,7 +7,7 @@ use Rattle.answer.specs.declared.Identifier.{Identifier}
 use Rattle.peer.specs.declared.Peer.{Peer}
 use Rattle.peer.specs.Calls.{newOf, stepOf, supplyOf}
 use Rattle.server.specs.declared.Server.{Server}
-use Rattle.server.specs.State.{fresh}
+use Rattle.server.specs.State.{initial}
 use Rattle.server.specs.Calls.{startOf, packetOf}
 
 -- ---- what the callers lend
@@ -61,7 +61,7 @@ module _ (l : Login) where
   made = newOf (l .credentials .name) (l .credentials .hash)
 
   unfoldable pub started : Outcome Server
-  started = startOf fresh (l .id) (l .challenge) (l .server) (l .retries) (l .room)
+  started = startOf initial (l .id) (l .challenge) (l .server) (l .retries) (l .room)
 
   unfoldable pub responded : Outcome Peer
   responded = stepOf (made .state) (started .octets ++ l .padding) (l .credentials .random) (l .response-room)

@@ -7,17 +7,16 @@ use mathlib.Core.Bool.{true}
 use mathlib.Core.List.{List, [], _∷_}
 use lib.ListN.{length}
 use Rattle.octets.specs.Octets.{AreOctets}
-use Rattle.accounts.specs.declared.Lookup.the-variants.{Account}
-use Rattle.accounts.specs.Accounts.{wellFormed, accountOf}
+use Rattle.accounts.specs.Accounts.{wellFormed}
 use Rattle.mschap.specs.Users.{userOf}
 use Rattle.mschap.specs.Responses.{ntResponse}
-use Rattle.verdict.specs.Verdict.{hashAt, Right}
+use Rattle.verdict.specs.Verdict.{Right}
 use Rattle.peer.specs.declared.Stage.{Stage as PeerStage}
-use Rattle.peer.specs.declared.Stage.the-variants as logger
+use Rattle.peer.specs.declared.Stage.the-variants as peer-stage
 use Rattle.server.specs.declared.Stage.{Stage as ServerStage}
 use Rattle.server.specs.declared.Stage.the-variants as stage
 use Rattle.conversation.specs.Calls.{ToServer, Credentials, Login, Ends, begun, judged, replied, closed, ended, Try, denied, waited, supplied, tried, triedAll}
-use Rattle.conversation.specs.Login.{Responds, Fits, RightAccount}
+use Rattle.conversation.specs.Login.{Responds, Fits, HasAccount, RightAccount}
 
 -- ---- what comes with a Response that a Failure Request answers: the table is well formed; no 22, the fresh octets differ from the outstanding
 -- challenge; and no 20, there is room for the Failure Request
@@ -76,14 +75,14 @@ module _ (l : Login) (ts : List Try) where
   -- the last Response is wrong and no retry is left, or it is right and its account has another code
   pub data Rejected : Type 0 where
     exhausted : length ts ≡ l .retries → Wrong outstanding last (l .at-response .table) → Rejected
-    barred : (code place : ℕ) → accountOf (l .at-response .table) (userOf (last .name)) ≡ Account code place → hashAt (l .at-response .table) place ≡ last .hash → (code ≡ 0 → ⊥) → Rejected
+    barred : (code : ℕ) → HasAccount (l .at-response .table) (userOf (last .name)) code (last .hash) → (code ≡ 0 → ⊥) → Rejected
 
 abbrev pub TriesSucceed : Type 0
 TriesSucceed =
     (l : Login) (ts : List Try) → Fits l → length ts ≤ l .retries → AllWrong (l .challenge) (l .credentials) ts → RightAccount l (last l ts)
-    → AskedAgain (begun l) ts × Reaches l (triedAll (begun l) ts) 2 stage.Success logger.Success
+    → AskedAgain (begun l) ts × Reaches l (triedAll (begun l) ts) 2 stage.Success peer-stage.Success
 
 abbrev pub TriesFail : Type 0
 TriesFail =
     (l : Login) (ts : List Try) → Fits l → length ts ≤ l .retries → AllWrong (l .challenge) (l .credentials) ts → Denial (outstanding l ts) (l .at-response) → Rejected l ts
-    → AskedAgain (begun l) ts × Reaches l (triedAll (begun l) ts) 3 stage.Failed logger.Failed
+    → AskedAgain (begun l) ts × Reaches l (triedAll (begun l) ts) 3 stage.Failed peer-stage.Failed

@@ -65,9 +65,9 @@ fn failure(retry: &[u8], k: Packet, p: &[u8]) {
     let digits = k.challenge;
     let text = k.tail;
     console::say(b"    error           E=");
-    console::number(k.code);
+    console::number(k.error);
     console::say(b", ");
-    console::code(k.code);
+    console::code(k.error);
     console::say(b"\n    retry           ");
     console::say(retry);
     console::say(b"\n    new challenge   C=");

@@ -1,25 +1,26 @@
 -- The marked cases hold: by computing the definitions at each.
 use Prim.Native.Nat.{ℕ, _≤_}
-use mathlib.Core.Path.{_≡_, refl, sym, ap}
-use mathlib.Core.Bool.{false}
+use mathlib.Core.Path.{_≡_, refl, sym, ap, _∙_}
+use mathlib.Core.Bool.{false, not}
 use mathlib.Core.List.{List, [], _∷_}
 use lib.Dec.{eqb}
 use Rattle.octets.specs.Choice.{pick}
 use Rattle.octets.specs.Octets.{octetIs, numberAt}
-use Rattle.octets.proofs.Exits.{pick-false}
-use Rattle.answer.specs.Outcome.{gives, outcome}
+use Rattle.octets.proofs.Exits.{pick-true, pick-false}
+use Rattle.answer.specs.Outcome.{outcome, refused}
+use Rattle.answer.proofs.Told.{told-number}
 use Rattle.packet.specs.declared.End.the-variants as end
-use Rattle.packet.specs.declared.Kind.the-variants.{SuccessResponse}
-use Rattle.packet.specs.declared.Packet.{Packet}
-use Rattle.packet.specs.Reader.{readPacket, refusal, reading, nowhere, readCut, readWhole, readAt, readAtPeer, readAtServer, readBare, bareRead, readChallenge, readSuccess, chapOk}
-use Rattle.packet.specs.Forms.{challengePacket, chapPacket, header}
+use Rattle.packet.specs.Frame.{framed, typed}
+use Rattle.packet.specs.Reader.{refusal, chapRow, challengeFormed, readChallenge, readSuccess, rowOf, opened, readCut, readPacket}
+use Rattle.packet.specs.Forms.{challengePacket, chapPacket, header, successResponse}
+use Rattle.packet.proofs.Back.{success-response-back}
 use Rattle.mschap.specs.Users.{userOf, userStart, startFrom}
 use Rattle.peer.specs.Calls.{stepOf, readOf}
 use Rattle.server.specs.declared.Server.{Server}
 use Rattle.server.specs.declared.Stage.the-variants as stage
 use Rattle.server.specs.State.{staged}
-use Rattle.server.specs.Moves.{Turn, refusedBy, turnOf, turnRead}
-use Rattle.server.specs.Calls.{packetOf, takeTurn}
+use Rattle.server.specs.Moves.{turnRefusal, turnOf}
+use Rattle.server.specs.Calls.{packetOf}
 use Rattle.server.proofs.Forward.{confirms-so, confirmed}
 use Rattle.marked.specs.Marked.{AtPeer, AtServer, AtBoth, Marked}
 
@@ -27,38 +28,25 @@ at-peer : (x : List ℕ) (k : ℕ) → readPacket end.Peer x ≡ refusal k → e
 unfolding stepOf readOf
 at-peer x k e z = record { reads = e; steps = λ p random room. rw e (pick-false _ _ _ z) }
 
-turn-refused : (x : List ℕ) (k : ℕ) (s : Server) → readPacket end.Server x ≡ refusal k → eqb k 0 ≡ false → turnOf s x ≡ refusedBy k
-unfolding turnOf turnRead
-turn-refused x k s e z = rw e (pick-false _ _ _ z)
-
 at-server : (x : List ℕ) (k : ℕ) → readPacket end.Server x ≡ refusal k → eqb k 0 ≡ false → AtServer x k
-unfolding packetOf takeTurn
+unfolding packetOf turnOf turnRefusal
 at-server x k e z =
     record {
       reads = e;
-      takes = λ s table fresh room. ap (λ (u : Turn). takeTurn u s x table fresh room) (turn-refused x k s e z);
+      takes = λ s table fresh room.
+          let n : turnOf s x .number ≡ k = told-number _ _ _ ∙ ap (turnRefusal s) e ∙ pick-true _ _ _ (ap not z) in
+          pick-false _ _ _ (ap (λ (m : ℕ). eqb m 0) n ∙ z) ∙ ap (λ (m : ℕ). refused m s) n;
     }
 
 at-both : (x : List ℕ) (k : ℕ) → readPacket end.Peer x ≡ refusal k → readPacket end.Server x ≡ refusal k → eqb k 0 ≡ false → AtBoth x k
 at-both x k p s z = record { peer = at-peer x k p z; server = at-server x k s z }
 
--- W10: the packet, and what is read of it
-abbrev confirmation : List ℕ
-confirmation = 2 ∷ 7 ∷ 0 ∷ 6 ∷ 26 ∷ 3 ∷ []
-
-abbrev confirming : Packet
-confirming = reading SuccessResponse 7 0 6 0 nowhere nowhere nowhere
-
-confirmation-reads : readPacket end.Server confirmation ≡ gives confirming
-unfolding readPacket readCut readWhole readAt readAtServer readBare bareRead numberAt pick
-confirmation-reads = refl
-
-w10-holds : (s : Server) → s .stage ≡ stage.SuccessRequestSent → s .id .0 ≡ 7 → (table fresh : List ℕ) (room : ℕ) → 4 ≤ room → packetOf s confirmation table fresh room ≡ outcome 2 (3 ∷ 7 ∷ 0 ∷ 4 ∷ []) (staged stage.Success s)
+w10-holds : (s : Server) → s .stage ≡ stage.SuccessRequestSent → s .request .id .0 ≡ 7 → (table fresh : List ℕ) (room : ℕ) → 4 ≤ room → packetOf s (successResponse 7) table fresh room ≡ outcome 2 (3 ∷ 7 ∷ 0 ∷ 4 ∷ []) (staged stage.Success s)
 w10-holds s h i table fresh room l =
-    confirmed s confirmation table fresh room confirming (confirms-so s confirmation confirming confirmation-reads (sym i) h refl) l
+    confirmed s (successResponse 7) table fresh room _ (confirms-so s (successResponse 7) _ (success-response-back 7 .reads []) (sym i) h refl) l
 
 pub marked : Marked
-unfolding readPacket readCut readWhole readAt readAtPeer readAtServer readBare readChallenge readSuccess chapOk numberAt octetIs pick challengePacket chapPacket header userOf userStart startFrom
+unfolding readPacket framed readCut typed opened rowOf readChallenge readSuccess chapRow challengeFormed numberAt octetIs pick challengePacket chapPacket header userOf userStart startFrom
 marked = record {
   w1 = at-both _ 10 refl refl refl;
   w2 = at-both _ 11 refl refl refl;

@@ -43,7 +43,7 @@ pub record Marked : Type 0 where
   -- what the writer writes (its contract is that it writes this packet), and that it reads back
   pub w8 : challengePacket 1 1 (replicate 16 0) frz ≡ (1 ∷ 1 ∷ 0 ∷ 29 ∷ 26 ∷ 1 ∷ 1 ∷ 0 ∷ 24 ∷ 16 ∷ []) ++ replicate 16 0 ++ frz
   pub w9 : AtPeer ((1 ∷ 1 ∷ 0 ∷ 26 ∷ 26 ∷ 1 ∷ 1 ∷ 0 ∷ 21 ∷ 16 ∷ []) ++ replicate 16 0) 17
-  pub w10 : (s : Server) → s .stage ≡ stage.SuccessRequestSent → s .id .0 ≡ 7 → (table fresh : List ℕ) (room : ℕ) → 4 ≤ room
+  pub w10 : (s : Server) → s .stage ≡ stage.SuccessRequestSent → s .request .id .0 ≡ 7 → (table fresh : List ℕ) (room : ℕ) → 4 ≤ room
       → packetOf s (2 ∷ 7 ∷ 0 ∷ 6 ∷ 26 ∷ 3 ∷ []) table fresh room ≡ outcome 2 (3 ∷ 7 ∷ 0 ∷ 4 ∷ []) (staged stage.Success s)
   -- `CAMP\frz` and `frz\`
   pub w11 : userOf (67 ∷ 65 ∷ 77 ∷ 80 ∷ 92 ∷ 102 ∷ 114 ∷ 122 ∷ []) ≡ 102 ∷ 114 ∷ 122 ∷ []

@@ -1,14 +1,13 @@
 -- Two packets that read alike, with the same octets at the reading's places, are the same octets up to L.
-use Prim.Native.Nat.{ℕ, _+_, _≤_, _<_}
-use mathlib.Core.Path.{_≡_, sym, ap, _∙_}
+use Prim.Native.Nat.{ℕ, zero, suc, _+_, _≤_}
+use mathlib.Core.Path.{_≡_, refl, sym, ap, _∙_}
 use mathlib.Core.List.{List}
 use native.Mathlib.Omega.{arith}
 use lib.ListN.{length, take, drop}
 use lib.Seq.{take-length}
-use borrow.Author.Tests.{eq-eqb, ne-eqb}
 use Rattle.octets.specs.Lists.{part}
 use Rattle.octets.specs.Octets.{AreOctets}
-use Rattle.octets.proofs.Exits.{pick-true, pick-false, below}
+use Rattle.octets.specs.Choice.{pick}
 use Rattle.octets.proofs.Parts.{length-part}
 use Rattle.octets.proofs.Decimals.{number-apart}
 use Rattle.answer.specs.Outcome.{gives}
@@ -16,7 +15,8 @@ use Rattle.packet.specs.declared.End.{End}
 use Rattle.packet.specs.declared.Kind.{Kind}
 use Rattle.packet.specs.declared.Kind.the-variants.{Challenge, Response, SuccessRequest, FailureRequest, RetryRequest, SuccessResponse, FailureResponse, EapSuccess, EapFailure}
 use Rattle.packet.specs.declared.Packet.{Packet}
-use Rattle.packet.specs.Forms.{successMessage, failureMessage, chapPacket, challengePacket, responsePacket, successResponse, failureResponse, eapSuccess, eapFailure}
+use Rattle.packet.specs.Forms.{challengeNameAt, responseNameAt, successTextAt, successMessage, failureMessage, chapPacket, challengePacket, responsePacket, successResponse, failureResponse, eapSuccess, eapFailure}
+use Rattle.packet.specs.Kinds.{kindNumber}
 use Rattle.packet.specs.Reader.{at, failureOf, readPacket}
 use Rattle.packet.proofs.Shapes.{ChallengeShape, ResponseShape, SuccessShape, FailureShape}
 use Rattle.packet.proofs.Readings.{tells, Shape}
@@ -48,22 +48,11 @@ module _ (q q′ : List ℕ) (x y y′ : Packet) (r : x ≡ y) (r′ : x ≡ y�
   same-tail = ap (λ (z : Packet). at q (z .tail)) (sym r) ∙ same .tail ∙ ap (λ (z : Packet). at q′ (z .tail)) r′
 
 -- R tells the two kinds apart
-no-retry : (r : ℕ) → r < 1 → failureOf r ≡ FailureRequest
-unfolding failureOf
-no-retry r h = pick-false _ _ _ (ne-eqb r 1 (omega arith))
-
-a-retry : (r : ℕ) → r ≤ 1 → 1 ≤ r → failureOf r ≡ RetryRequest
-unfolding failureOf
-a-retry r h k = pick-true _ _ _ (eq-eqb r 1 (omega arith))
-
-two-kinds : {A : Type 0} → FailureRequest ≡ RetryRequest → A
-two-kinds e = let z : _≡_ {A = ℕ} 0 1 = cc in absurd (omega arith)
-
-retry-apart : (r r′ : ℕ) → r ≤ 1 → r′ ≤ 1 → failureOf r ≡ failureOf r′ → r ≡ r′
-retry-apart r r′ h h′ e =
-    below r 1
-    (λ a. below r′ 1 (λ b. omega arith) (λ b. two-kinds (sym (no-retry r a) ∙ e ∙ a-retry r′ h′ b)))
-    (λ a. below r′ 1 (λ b. two-kinds (sym (sym (a-retry r h a) ∙ e ∙ no-retry r′ b))) (λ b. omega arith))
+retry-number : (r : ℕ) → r ≤ 1 → kindNumber (failureOf r) ≡ 3 + r
+unfolding failureOf pick
+retry-number zero h = refl
+retry-number (suc zero) h = refl
+retry-number (suc (suc r)) h = absurd (omega arith)
 
 module _ (q q′ : List ℕ) (x : Packet) (o : AreOctets q) (o′ : AreOctets q′) (same : SameAt q q′ x) where
   challenges : ChallengeShape q x → ChallengeShape q′ x → q ≡ q′
@@ -71,7 +60,7 @@ module _ (q q′ : List ℕ) (x : Packet) (o : AreOctets q) (o′ : AreOctets q�
       let i = same-id q q′ x _ _ (s .reads) (s′ .reads) same in
       let c = same-chapid q q′ x _ _ (s .reads) (s′ .reads) same in
       let a = same-challenge q q′ x _ _ (s .reads) (s′ .reads) same in
-      let t : drop 26 q ≡ drop 26 q′ = sym (take-length (drop 26 q)) ∙ same-tail q q′ x _ _ (s .reads) (s′ .reads) same ∙ take-length (drop 26 q′) in
+      let t : drop challengeNameAt q ≡ drop challengeNameAt q′ = sym (take-length (drop challengeNameAt q)) ∙ same-tail q q′ x _ _ (s .reads) (s′ .reads) same ∙ take-length (drop challengeNameAt q′) in
       s .is o ∙ (λ j. challengePacket (i j) (c j) (a j) (t j)) ∙ sym (s′ .is o′)
 
   responses : ResponseShape q x → ResponseShape q′ x → q ≡ q′
@@ -80,7 +69,7 @@ module _ (q q′ : List ℕ) (x : Packet) (o : AreOctets q) (o′ : AreOctets q�
       let c = same-chapid q q′ x _ _ (s .reads) (s′ .reads) same in
       let a = same-challenge q q′ x _ _ (s .reads) (s′ .reads) same in
       let b = same-response q q′ x _ _ (s .reads) (s′ .reads) same in
-      let t : drop 59 q ≡ drop 59 q′ = sym (take-length (drop 59 q)) ∙ same-tail q q′ x _ _ (s .reads) (s′ .reads) same ∙ take-length (drop 59 q′) in
+      let t : drop responseNameAt q ≡ drop responseNameAt q′ = sym (take-length (drop responseNameAt q)) ∙ same-tail q q′ x _ _ (s .reads) (s′ .reads) same ∙ take-length (drop responseNameAt q′) in
       s .is o ∙ (λ j. responsePacket (i j) (c j) (a j) (b j) (t j)) ∙ sym (s′ .is o′)
 
   successes : SuccessShape q x → SuccessShape q′ x → q ≡ q′
@@ -88,7 +77,7 @@ module _ (q q′ : List ℕ) (x : Packet) (o : AreOctets q) (o′ : AreOctets q�
       let i = same-id q q′ x _ _ (s .reads) (s′ .reads) same in
       let c = same-chapid q q′ x _ _ (s .reads) (s′ .reads) same in
       let b = same-response q q′ x _ _ (s .reads) (s′ .reads) same in
-      let t : drop 54 q ≡ drop 54 q′ = sym (take-length (drop 54 q)) ∙ same-tail q q′ x _ _ (s .reads) (s′ .reads) same ∙ take-length (drop 54 q′) in
+      let t : drop successTextAt q ≡ drop successTextAt q′ = sym (take-length (drop successTextAt q)) ∙ same-tail q q′ x _ _ (s .reads) (s′ .reads) same ∙ take-length (drop successTextAt q′) in
       s .is o ∙ (λ j. chapPacket 1 3 (i j) (c j) (successMessage (b j) (t j))) ∙ sym (s′ .is o′)
 
   -- where C and the text stand tells how many digits E and V have, so that their numbers tell the digits
@@ -99,12 +88,12 @@ module _ (q q′ : List ℕ) (x : Packet) (o : AreOctets q) (o′ : AreOctets q�
       let c = same-chapid q q′ x _ _ (s .reads) (s′ .reads) same in
       let d = same-challenge q q′ x _ _ (s .reads) (s′ .reads) same in
       let k = ap (λ (z : Packet). z .kind) y in
-      let n = ap (λ (z : Packet). z .code) y in
+      let n = ap (λ (z : Packet). z .error) y in
       let at-c : 18 + s .a ≡ 18 + s′ .a = ap (λ (z : Packet). z .challenge .start) y in
       let at-t : 56 + s .a + s .b ≡ 56 + s′ .a + s′ .b = ap (λ (z : Packet). z .tail .start) y in
       let f = s .spelling in
       let f′ = s′ .spelling in
-      let r : s .retry ≡ s′ .retry = retry-apart (s .retry) (s′ .retry) (f .bit) (f′ .bit) k in
+      let r : s .retry ≡ s′ .retry = omega (arith, sym (retry-number (s .retry) (f .bit)) ∙ ap kindNumber k ∙ retry-number (s′ .retry) (f′ .bit)) in
       let l = s .least in
       let l′ = s′ .least in
       let ea : length (part q 11 (s .a)) ≡ s .a = length-part q 11 (s .a) (omega arith) in

@@ -10,12 +10,13 @@ use Rattle.octets.specs.Octets.{AreOctets}
 use Rattle.octets.proofs.Exits.{below}
 use Rattle.octets.proofs.Parts.{length-part}
 use Rattle.answer.specs.Outcome.{gives}
+use Rattle.answer.specs.Sizes.{maxPacket}
 use Rattle.packet.specs.declared.End.{End}
 use Rattle.packet.specs.declared.End.the-variants.{Peer, Server}
 use Rattle.packet.specs.declared.Kind.{Kind}
 use Rattle.packet.specs.declared.Kind.the-variants.{Challenge, Response, SuccessRequest, FailureRequest, RetryRequest, SuccessResponse, FailureResponse, EapSuccess, EapFailure}
 use Rattle.packet.specs.declared.Packet.{Packet}
-use Rattle.packet.specs.Formed.{Formed, a-challenge, a-response, a-success-request, a-failure-request, a-success-response, a-failure-response, an-eap-success, an-eap-failure}
+use Rattle.packet.specs.Forms.{challengeNameAt, responseNameAt, successTextAt, Formed, a-challenge, a-response, a-success-request, a-failure-request, a-success-response, a-failure-response, an-eap-success, an-eap-failure}
 use Rattle.packet.specs.Reader.{readPacket}
 use Rattle.packet.proofs.Sizes.{length-challengePacket, length-success, length-failure}
 use Rattle.packet.proofs.Back.{challenge-back, response-back, success-back, failure-back, success-response-back, failure-response-back, eap-success-back, eap-failure-back}
@@ -26,7 +27,7 @@ pub record Taken (end : End) (q : List ℕ) : Type 0 where
   pub reading : Packet
   pub reads : (pad : List ℕ) → readPacket end (q ++ pad) ≡ gives reading
 
-pub formed-reads : (end : End) (q : List ℕ) → Formed end q → length q ≤ 1020 → Taken end q
+pub formed-reads : (end : End) (q : List ℕ) → Formed end q → length q ≤ maxPacket → Taken end q
 formed-reads Peer _ (a-challenge id chapid c name n s) h =
     record { reading = _; reads = challenge-back id chapid c name n s (omega (arith, length-challengePacket id chapid c name n)) .reads }
 formed-reads Server _ (a-response id chapid p r name n m s) h = record { reading = _; reads = response-back id chapid p r name n m s .reads }
@@ -49,14 +50,14 @@ cut-octets p l o k =
 shape-formed : (k : Kind) (q : List ℕ) (x : Packet) → AreOctets q → Shape k q x → Formed (endOf k) q
 shape-formed Challenge q x o s =
     let l = s .least in
-    subst (Formed Peer) (sym (s .is o)) (a-challenge _ _ (part q 10 16) (drop 26 q) (length-part q 10 16 (omega arith)) (omega (arith, length-drop 26 q)))
+    subst (Formed Peer) (sym (s .is o)) (a-challenge _ _ (part q 10 16) (drop challengeNameAt q) (length-part q 10 16 (omega arith)) (omega (arith, length-drop challengeNameAt q)))
 shape-formed Response q x o s =
     let l = s .least in
     let m = s .most in
-    subst (Formed Server) (sym (s .is o)) (a-response _ _ (part q 10 16) (part q 34 24) (drop 59 q) (length-part q 10 16 (omega arith)) (length-part q 34 24 (omega arith)) (omega (arith, length-drop 59 q)))
+    subst (Formed Server) (sym (s .is o)) (a-response _ _ (part q 10 16) (part q 34 24) (drop responseNameAt q) (length-part q 10 16 (omega arith)) (length-part q 34 24 (omega arith)) (omega (arith, length-drop responseNameAt q)))
 shape-formed SuccessRequest q x o s =
     let l = s .least in
-    subst (Formed Peer) (sym (s .is o)) (a-success-request _ _ (part q 11 40) (drop 54 q) (length-part q 11 40 (omega arith)) (s .upper))
+    subst (Formed Peer) (sym (s .is o)) (a-success-request _ _ (part q 11 40) (drop successTextAt q) (length-part q 11 40 (omega arith)) (s .upper))
 shape-formed FailureRequest q x o s = subst (Formed Peer) (sym (s .is o)) (a-failure-request _ _ _ (s .retry) _ _ _ (s .spelling))
 shape-formed RetryRequest q x o s = subst (Formed Peer) (sym (s .is o)) (a-failure-request _ _ _ (s .retry) _ _ _ (s .spelling))
 shape-formed SuccessResponse q x o s = subst (Formed Server) (sym (s .is)) (a-success-response _)

@@ -1,9 +1,12 @@
-pub mod Sizes
-pub mod Back
-pub mod Shapes
-pub mod Readings
-pub mod Order
-pub mod Exact
 pub mod Alike
+pub mod Apart
+pub mod Back
+pub mod Ends
+pub mod Exact
+pub mod Frames
 pub mod Places
-mod Absent
+pub mod Readings
+pub mod Shapes
+pub mod Renumbered
+pub mod Sizes
+pub mod Steps

@@ -5,10 +5,12 @@ use mathlib.Core.List.{List}
 use native.Mathlib.Omega.{arith}
 use lib.ListN.{length, take, length-drop}
 use Rattle.answer.specs.Outcome.{gives}
+use Rattle.answer.specs.Sizes.{maxName}
 use Rattle.packet.specs.declared.End.{End}
 use Rattle.packet.specs.declared.Kind.{Kind}
 use Rattle.packet.specs.declared.Kind.the-variants.{Challenge, Response, SuccessRequest, FailureRequest, RetryRequest, SuccessResponse, FailureResponse, EapSuccess, EapFailure}
 use Rattle.packet.specs.declared.Packet.{Packet}
+use Rattle.packet.specs.Forms.{challengeNameAt, responseNameAt, successTextAt}
 use Rattle.packet.specs.Reader.{readPacket}
 use Rattle.packet.proofs.Shapes.{FailureShape, BareShape}
 use Rattle.packet.proofs.Readings.{tells, Shape}
@@ -21,7 +23,7 @@ pub record Inside (x : Packet) : Type 0 where
 -- how long the places of a kind are
 abbrev pub Long : Kind → Packet → Type 0
 Long Challenge x = (x .challenge .len ≡ 16) × (1 ≤ x .tail .len)
-Long Response x = (x .challenge .len ≡ 16) × (x .response .len ≡ 24) × (x .tail .len ≤ 256)
+Long Response x = (x .challenge .len ≡ 16) × (x .response .len ≡ 24) × (x .tail .len ≤ maxName)
 Long SuccessRequest x = x .response .len ≡ 40
 Long FailureRequest x = x .challenge .len ≡ 32
 Long RetryRequest x = x .challenge .len ≡ 32
@@ -45,16 +47,16 @@ bare-long kind q packet x n e s = (λ j. s .reads j .length) ∙ (λ j. length (
 pub places : (kind : Kind) (q : List ℕ) (x : Packet) → Shape kind q x → Inside x × Long kind x
 places Challenge q x s =
     let l = s .least in
-    let d = length-drop 26 q in
+    let d = length-drop challengeNameAt q in
     subst (λ (y : Packet). Inside y × Long Challenge y) (sym (s .reads)) (record { challenge = omega arith; response = omega arith; tail = omega arith }, (refl, omega arith))
 places Response q x s =
     let l = s .least in
     let m = s .most in
-    let d = length-drop 59 q in
+    let d = length-drop responseNameAt q in
     subst (λ (y : Packet). Inside y × Long Response y) (sym (s .reads)) (record { challenge = omega arith; response = omega arith; tail = omega arith }, (refl, refl, omega arith))
 places SuccessRequest q x s =
     let l = s .least in
-    let d = length-drop 54 q in
+    let d = length-drop successTextAt q in
     subst (λ (y : Packet). Inside y × Long SuccessRequest y) (sym (s .reads)) (record { challenge = omega arith; response = omega arith; tail = omega arith }, refl)
 places FailureRequest q x s = failure-inside q x s
 places RetryRequest q x s = failure-inside q x s

@@ -1,26 +1,33 @@
--- What a reading tells, and that padding does not matter.
-use Prim.Native.Nat.{ℕ, _+_, _*_, _≤_, _<_}
+-- What the reader gives: a number from 10 to 17, or a reading, and what that tells. Padding does not matter.
+use Prim.Native.Nat.{ℕ, _≤_}
 use mathlib.Core.Path.{_≡_, refl, sym, ap, subst, _∙_}
 use mathlib.Core.List.{List, _++_}
 use mathlib.Core.Bool.{Bool, true, false, not}
 use native.Mathlib.Omega.{arith}
-use lib.ListN.{length, getD, take, length-append, List·getD-append}
-use lib.Seq.{length-take-le, take-at, getD-take}
-use lib.Dec.{ltb, eqb}
-use borrow.Author.Tests.{ltb-false, le-ltb, eqb-true, not-false}
+use lib.ListN.{length, getD, take, drop, take-append-drop}
+use lib.Seq.{length-take-le, getD-take}
+use lib.Dec.{leb, eqb}
+use borrow.Author.Tests.{leb-true, eqb-true, eq-eqb, not-false}
 use Rattle.octets.specs.Choice.{pick}
 use Rattle.octets.specs.Octets.{numberAt}
 use Rattle.octets.specs.declared.Order.the-variants.{Big}
-use Rattle.octets.proofs.Exits.{pick-true, pick-false, arms, tested}
+use Rattle.octets.proofs.Exits.{arms, picked, clash}
+use Rattle.octets.proofs.Parts.{number-take, number-append}
 use Rattle.answer.specs.Outcome.{Told, gives}
+use Rattle.answer.specs.Sizes.{maxPacket}
 use Rattle.packet.specs.declared.End.{End}
 use Rattle.packet.specs.declared.End.the-variants.{Peer, Server}
 use Rattle.packet.specs.declared.Kind.{Kind}
 use Rattle.packet.specs.declared.Kind.the-variants.{Challenge, Response, SuccessRequest, FailureRequest, RetryRequest, SuccessResponse, FailureResponse, EapSuccess, EapFailure}
 use Rattle.packet.specs.declared.Packet.{Packet}
+use Rattle.packet.specs.declared.Place.{Place}
 use Rattle.packet.specs.Forms.{successResponse, failureResponse, eapSuccess, eapFailure}
-use Rattle.packet.specs.Reader.{refusal, failureOf, readAtPeer, readAtServer, readAt, readWhole, readCut, readPacket}
-use Rattle.packet.proofs.Shapes.{no-reading, past, Head, ChallengeShape, challenge-shape, ResponseShape, response-shape, SuccessShape, success-shape, FailureShape, failure-shape, BareShape, bare-response-shape, bare-eap-shape}
+use Rattle.packet.specs.Frame.{codeOf, lengthOf, cutOf, typed}
+use Rattle.packet.specs.Inner.{atPeer, atServer, atEnd}
+use Rattle.packet.specs.Reader.{refusal, chapRow, readChallenge, readResponse, readSuccess, failureOf, failureRow, readFailure, readBare, rowOf, opened, readCut, readPacket}
+use Rattle.packet.proofs.Frames.{framed-so, framed-whole}
+use Rattle.packet.proofs.Ends.{at-end}
+use Rattle.packet.proofs.Shapes.{passed-on, Head, ChallengeShape, challenge-shape, ResponseShape, response-shape, SuccessShape, success-shape, FailureShape, failure-shape, BareShape, bare-response-shape, bare-eap-shape}
 
 -- the end that reads a kind
 abbrev pub endOf : Kind → End
@@ -50,121 +57,140 @@ Shape EapFailure q x = BareShape EapFailure q (eapFailure (getD q 1 0)) x
 pub record Tells (end : End) (p : List ℕ) (x : Packet) : Type 0 where
   pub size : x .length ≡ numberAt Big p 2
   pub least : 4 ≤ x .length
-  pub most : x .length ≤ 1020
+  pub most : x .length ≤ maxPacket
   pub inside : x .length ≤ length p
   pub here : endOf (x .kind) ≡ end
+  pub id-is : x .id .0 ≡ getD p 1 0
   pub shape : Shape (x .kind) (take (x .length) p) x
 
 -- ---- the same of the packet, cut at L
 record Leaf (end : End) (q : List ℕ) (x : Packet) : Type 0 where
   size : x .length ≡ length q
   here : endOf (x .kind) ≡ end
+  id-is : x .id .0 ≡ getD q 1 0
   shape : Shape (x .kind) q x
 
-leaf : (end : End) (kind : Kind) (q : List ℕ) (x y : Packet) → x ≡ y → y .length ≡ length q → y .kind ≡ kind → endOf kind ≡ end → Shape kind q x → Leaf end q x
-leaf end kind q x y r l k e s =
+leaf : (end : End) (kind : Kind) (q : List ℕ) (x y : Packet) → x ≡ y → y .length ≡ length q → y .id .0 ≡ getD q 1 0 → y .kind ≡ kind → endOf kind ≡ end → Shape kind q x → Leaf end q x
+leaf end kind q x y r l i k e s =
     let k′ : x .kind ≡ kind = ap (λ (z : Packet). z .kind) r ∙ k in
-    record { size = ap (λ (z : Packet). z .length) r ∙ l; here = ap endOf k′ ∙ e; shape = subst (λ (z : Kind). Shape z q x) (sym k′) s }
+    record { size = ap (λ (z : Packet). z .length) r ∙ l; here = ap endOf k′ ∙ e; id-is = ap (λ (z : Packet). z .id .0) r ∙ i; shape = subst (λ (z : Kind). Shape z q x) (sym k′) s }
 
 -- a Failure Request is of one of two kinds
-failure-shapes : (retry : ℕ) (q : List ℕ) (x : Packet) → FailureShape q x → Shape (failureOf retry) q x
+failure-leaf : (q : List ℕ) (x : Packet) → FailureShape q x → Leaf Peer q x
 unfolding failureOf
-failure-shapes retry q x s = arms (λ (k : Kind). Shape k q x) (eqb retry 1) s s
+failure-leaf q x s =
+    leaf Peer (failureOf (s .retry)) q x _ (s .reads) refl refl refl
+    (arms (λ (k : Kind). endOf k ≡ Peer) (eqb (s .retry) 1) refl refl) (arms (λ (k : Kind). Shape k q x) (eqb (s .retry) 1) s s)
 
-failure-end : (retry : ℕ) → endOf (failureOf retry) ≡ Peer
-unfolding failureOf
-failure-end retry = arms (λ (k : Kind). endOf k ≡ Peer) (eqb retry 1) refl refl
-
--- a way by a test
-way : {B : Type 0} (b : Bool) (l r : Told Packet) (x : Packet) → pick b l r ≡ gives x → (b ≡ true → l ≡ gives x → B) → (b ≡ false → r ≡ gives x → B) → B
-way b l r x e f g = tested b (λ t. f t (sym (pick-true _ _ _ t) ∙ e)) (λ t. g t (sym (pick-false _ _ _ t) ∙ e))
+-- a refusal reads nothing
+unread : {A : Type 0} (k : ℕ) (x : Packet) → eqb k 0 ≡ false → refusal k ≡ gives x → A
+unread k x z e = clash z (eq-eqb k 0 (ap (λ (t : Told Packet). t .number) e))
 
 module _ (q : List ℕ) (x : Packet) (size : numberAt Big q 2 ≡ length q) where
-  head : {k op : ℕ} → not (eqb (getD q 0 0) k) ≡ false → not (eqb (getD q 4 0) 26) ≡ false → eqb (getD q 5 0) op ≡ true → Head q k op
+  -- a way by a test, and a test that refuses
+  way : {end : End} (b : Bool) {l r : Told Packet} → (b ≡ true → l ≡ gives x → Leaf end q x) → (b ≡ false → r ≡ gives x → Leaf end q x) → pick b l r ≡ gives x → Leaf end q x
+  way {end} b = picked (λ (t : Told Packet). t ≡ gives x → Leaf end q x) b
+
+  past : {end : End} (b : Bool) (k : ℕ) {t : Told Packet} → eqb k 0 ≡ false → (b ≡ false → t ≡ gives x → Leaf end q x) → pick b (refusal k) t ≡ gives x → Leaf end q x
+  past b k z f e = let u = passed-on b k _ x z e in f (u .0) (u .1)
+
+  head : {c op : ℕ} → not (eqb (codeOf q) c) ≡ false → not (eqb (getD q 4 0) 26) ≡ false → eqb (getD q 5 0) op ≡ true → Head q c op
   head code type op = record { code-is = eqb-true _ _ (not-false _ code); type-is = eqb-true _ _ (not-false _ type); op-is = eqb-true _ _ op; size-is = size }
 
-  at-peer : readAtPeer (getD q 0 0) (getD q 4 0) (getD q 5 0) q ≡ gives x → Leaf Peer q x
-  unfolding readAtPeer
-  at-peer e =
-      way _ _ _ x e (λ code e0. let s = bare-eap-shape EapSuccess 3 q x (eqb-true _ _ code) size e0 in leaf Peer EapSuccess q x _ (s .reads) refl refl refl s) (λ _ e1.
-      way _ _ _ x e1 (λ code e0. let s = bare-eap-shape EapFailure 4 q x (eqb-true _ _ code) size e0 in leaf Peer EapFailure q x _ (s .reads) refl refl refl s) (λ _ e2.
-      past _ 13 _ x refl e2 (λ code e3.
-      past _ 14 _ x refl e3 (λ _ e4.
-      past _ 14 _ x refl e4 (λ type e5.
-      past _ 15 _ x refl e5 (λ _ e6.
-      way _ _ _ x e6 (λ op e0. let s = challenge-shape q x (head code type op) e0 in leaf Peer Challenge q x _ (s .reads) refl refl refl s) (λ _ e7.
-      way _ _ _ x e7 (λ op e0. let s = success-shape q x (head code type op) e0 in leaf Peer SuccessRequest q x _ (s .reads) refl refl refl s) (λ _ e8.
-      way _ _ _ x e8 (λ op e0. let s = failure-shape q x (head code type op) e0 in leaf Peer (failureOf (s .retry)) q x _ (s .reads) refl refl (failure-end (s .retry)) (failure-shapes (s .retry) q x s)) (λ _ e9.
-      no-reading 15 x refl e9)))))))))
-
-  at-server : readAtServer (getD q 0 0) (getD q 4 0) (getD q 5 0) q ≡ gives x → Leaf Server q x
-  unfolding readAtServer
-  at-server e =
-      past _ 13 _ x refl e (λ code e1.
-      past _ 14 _ x refl e1 (λ _ e2.
-      past _ 14 _ x refl e2 (λ type e3.
-      past _ 15 _ x refl e3 (λ _ e4.
-      way _ _ _ x e4 (λ op e0. let s = response-shape q x (head code type op) e0 in leaf Server Response q x _ (s .reads) refl refl refl s) (λ _ e5.
-      way _ _ _ x e5 (λ op e0. let s = bare-response-shape SuccessResponse 3 q x (head code type op) e0 in leaf Server SuccessResponse q x _ (s .reads) refl refl refl s) (λ _ e6.
-      way _ _ _ x e6 (λ op e0. let s = bare-response-shape FailureResponse 4 q x (head code type op) e0 in leaf Server FailureResponse q x _ (s .reads) refl refl refl s) (λ _ e7.
-      no-reading 15 x refl e7)))))))
-
-  at-end : (end : End) → readWhole end q ≡ gives x → Leaf end q x
-  unfolding readWhole readAt
-  at-end Peer e = at-peer e
-  at-end Server e = at-server e
+  leaf-at : (end : End) → atEnd end (codeOf q) (getD q 4 0) (getD q 5 0) q ≡ gives x → Leaf end q x
+  unfolding atEnd atPeer atServer
+  leaf-at Peer =
+      way _ (λ code e. let s = bare-eap-shape EapSuccess 3 q x (eqb-true _ _ code) size e in leaf Peer EapSuccess q x _ (s .reads) refl refl refl refl s) (λ _.
+      way _ (λ code e. let s = bare-eap-shape EapFailure 4 q x (eqb-true _ _ code) size e in leaf Peer EapFailure q x _ (s .reads) refl refl refl refl s) (λ _.
+      past _ 13 refl (λ code.
+      past _ 14 refl (λ type.
+      way _ (λ op e. let s = challenge-shape q x (head code type op) e in leaf Peer Challenge q x _ (s .reads) refl refl refl refl s) (λ _.
+      way _ (λ op e. let s = success-shape q x (head code type op) e in leaf Peer SuccessRequest q x _ (s .reads) refl refl refl refl s) (λ _.
+      way _ (λ op e. failure-leaf q x (failure-shape q x (head code type op) e)) (λ _.
+      unread 15 x refl)))))))
+  leaf-at Server =
+      past _ 13 refl (λ code.
+      past _ 14 refl (λ type.
+      way _ (λ op e. let s = response-shape q x (head code type op) e in leaf Server Response q x _ (s .reads) refl refl refl refl s) (λ _.
+      way _ (λ op e. let s = bare-response-shape SuccessResponse 3 q x (head code type op) e in leaf Server SuccessResponse q x _ (s .reads) refl refl refl refl s) (λ _.
+      way _ (λ op e. let s = bare-response-shape FailureResponse 4 q x (head code type op) e in leaf Server FailureResponse q x _ (s .reads) refl refl refl refl s) (λ _.
+      unread 15 x refl)))))
 
 -- ---- what is read
--- L stands at 2 in the packet, cut at L
-size-cut : (p : List ℕ) (l : ℕ) → 4 ≤ l → numberAt Big (take l p) 2 ≡ numberAt Big p 2
-unfolding numberAt
-size-cut p l h = (λ j. getD-take l p 2 0 (lt h) j * 256 + getD-take l p 3 0 h j)
-  where
-    lt : 4 ≤ l → 2 < l
-    lt h = omega arith
-
-size-pad : (q pad : List ℕ) → 4 ≤ length q → numberAt Big (q ++ pad) 2 ≡ numberAt Big q 2
-unfolding numberAt
-size-pad q pad h = (λ j. List·getD-append q pad 0 2 (lt h) j * 256 + List·getD-append q pad 0 3 h j)
-  where
-    lt : 4 ≤ length q → 2 < length q
-    lt h = omega arith
-
 pub tells : (end : End) (p : List ℕ) (x : Packet) → readPacket end p ≡ gives x → Tells end p x
-unfolding readPacket readCut
-tells end p x e =
-    let l = numberAt Big p 2 in
-    past _ 10 _ x refl e (λ _ e1.
-    past _ 11 _ x refl e1 (λ least e2.
-    past _ 11 _ x refl e2 (λ inside e3.
-    past _ 12 _ x refl e3 (λ most e4.
-    let n : length (take l p) ≡ l = length-take-le l p (ltb-false _ _ inside) in
-    let f = at-end (take l p) x (size-cut p l (ltb-false _ _ least) ∙ sym n) end e4 in
-    let s : x .length ≡ l = f .size ∙ n in
+unfolding readPacket
+tells end p x =
+    framed-so refusal (readCut end) (λ (t : Told Packet). t ≡ gives x → Tells end p x) p (unread 10 x refl) (unread 11 x refl) (unread 12 x refl) (λ f e.
+    let l = lengthOf p in
+    let n : length (cutOf p) ≡ l = length-take-le l p (f .inside) in
+    let s = leaf-at (cutOf p) x (number-take Big l p 2 (omega (arith, f .least)) ∙ sym n) end (sym (at-end end (cutOf p)) ∙ e) in
+    let z : x .length ≡ l = s .size ∙ n in
     record {
-      size = s;
-      least = rw s (ltb-false _ _ least);
-      most = rw s (ltb-false _ _ most);
-      inside = rw s (ltb-false _ _ inside);
-      here = f .here;
-      shape = subst (λ (k : ℕ). Shape (x .kind) (take k p) x) (sym s) (f .shape);
-    }))))
+      size = z;
+      least = rw z (f .least);
+      most = rw z (f .most);
+      inside = rw z (f .inside);
+      here = s .here;
+      id-is = s .id-is ∙ getD-take l p 1 0 (omega (arith, f .least));
+      shape = subst (λ (k : ℕ). Shape (x .kind) (take k p) x) (sym z) (s .shape);
+    })
+
+pub read-id : (end : End) (p : List ℕ) (x : Packet) → readPacket end p ≡ gives x → x .id .0 ≡ getD p 1 0
+read-id end p x e = tells end p x e .id-is
+
+-- ---- a number from 10 to 17, or a packet with the Identifier at 1
+pub data ReadOrRefused (p : List ℕ) : Told Packet → Type 0 where
+  none : (n : ℕ) → 10 ≤ n → n ≤ 17 → ReadOrRefused p (refusal n)
+  some : (x : Packet) → x .id .0 ≡ getD p 1 0 → ReadOrRefused p (gives x)
+
+module _ (end : End) (p : List ℕ) where
+  abbrev Case : Told Packet → Type 0
+  Case t = readPacket end p ≡ t → ReadOrRefused p t
+
+  no : (n : ℕ) → leb 10 n ≡ true → leb n 17 ≡ true → Case (refusal n)
+  no n h l e = none n (leb-true 10 n h) (leb-true n 17 l)
+
+  chap-case : (kind : Kind) (q : List ℕ) (formed : Bool) (error : ℕ) (challenge response : Place) (tail : ℕ) → Case (chapRow kind q formed error challenge response tail)
+  unfolding chapRow
+  chap-case kind q formed error challenge response tail = arms Case _ (no 16 refl refl) (arms Case _ (no 17 refl refl) (λ e. some _ (read-id end p _ e)))
+
+  bare-case : (kind : Kind) (l : ℕ) (q : List ℕ) → Case (readBare kind l q)
+  unfolding readBare
+  bare-case kind l q = arms Case _ (no 17 refl refl) (λ e. some _ (read-id end p _ e))
+
+  row-case : (code op : ℕ) (q : List ℕ) → Case (rowOf code op q)
+  unfolding rowOf readChallenge readSuccess readFailure readResponse failureRow
+  row-case code op q =
+      arms Case _ (arms Case _ (chap-case _ q _ _ _ _ _) (arms Case _ (chap-case _ q _ _ _ _ _) (arms Case _ (chap-case _ q _ _ _ _ _) (no 15 refl refl))))
+      (arms Case _ (arms Case _ (chap-case _ q _ _ _ _ _) (arms Case _ (bare-case _ 6 q) (arms Case _ (bare-case _ 6 q) (no 15 refl refl))))
+      (arms Case _ (bare-case _ 4 q) (bare-case _ 4 q)))
+
+  pub read-or-refused : ReadOrRefused p (readPacket end p)
+  unfolding readPacket readCut typed opened
+  read-or-refused =
+      framed-so refusal (readCut end) Case p (no 10 refl refl) (no 11 refl refl) (no 12 refl refl)
+      (λ _. arms Case _ (no 13 refl refl) (arms Case _ (no 14 refl refl) (arms Case _ (no 15 refl refl) (row-case _ _ (cutOf p))))) refl
+
+-- L is within 1,020, whatever the answer
+pub read-within : (end : End) (p : List ℕ) → readPacket end p .value .length ≤ maxPacket
+read-within end p = go (read-or-refused end p) refl
+  where
+    go : {t : Told Packet} → ReadOrRefused p t → readPacket end p ≡ t → t .value .length ≤ maxPacket
+    go (none n h l) e = omega arith
+    go (some x i) e = tells end p x e .most
 
 -- ---- octets after L are padding
--- where L is no less than 4 and within the octets lent
-whole-read : (end : End) (p : List ℕ) (l : ℕ) → numberAt Big p 2 ≡ l → 4 ≤ l → l ≤ length p → readPacket end p ≡ pick (ltb 1020 l) (refusal 12) (readWhole end (take l p))
-unfolding readPacket readCut
-whole-read end p l e h k =
-    let a : 4 ≤ length p = omega arith in
-    pick-false _ _ _ (le-ltb _ _ a) ∙ ap (readCut end p) e ∙ pick-false _ _ _ (le-ltb _ _ h) ∙ pick-false _ _ _ (le-ltb _ _ k)
-
 pub padding : (end : End) (p pad : List ℕ) → 4 ≤ numberAt Big p 2 → numberAt Big p 2 ≤ length p → readPacket end (take (numberAt Big p 2) p ++ pad) ≡ readPacket end p
+unfolding readPacket
 padding end p pad h k =
     let l = numberAt Big p 2 in
     let q = take l p in
     let n : length q ≡ l = length-take-le l p k in
-    let s : numberAt Big (q ++ pad) 2 ≡ l = size-pad q pad (omega arith) ∙ size-cut p l h in
-    let m : l ≤ length (q ++ pad) = omega (arith, length-append q pad) in
-    whole-read end (q ++ pad) l s h m
-    ∙ ap (λ (t : List ℕ). pick (ltb 1020 l) (refusal 12) (readWhole end t)) (take-at q pad l n)
-    ∙ sym (whole-read end p l refl h k)
+    let s : lengthOf (q ++ pad) ≡ l = number-append Big q pad 2 (omega arith) ∙ number-take Big l p 2 (omega arith) in
+    let t : q ++ drop l p ≡ p = take-append-drop l p in
+    framed-whole refusal (readCut end) q pad l n h s ∙ sym (framed-whole refusal (readCut end) q (drop l p) l n h (ap lengthOf t)) ∙ ap (readPacket end) t
+
+pub read-padded : (end : End) (p : List ℕ) (x : Packet) (pad : List ℕ) → readPacket end p ≡ gives x → readPacket end (take (x .length) p ++ pad) ≡ gives x
+read-padded end p x pad e =
+    let t = tells end p x e in
+    ap (λ (n : ℕ). readPacket end (take n p ++ pad)) (t .size) ∙ padding end p pad (rw (t .size) at (t .least)) (rw (t .size) at (t .inside)) ∙ e

@@ -1,34 +1,47 @@
--- 01, "Packet forms": the octets of each packet.
+-- 01, "Packet forms": the octets of each packet, and which octets are one for an end.
 use Prim.Native.Nat.{ℕ, _+_, _-_, _/_, _%_, _≤_}
 use mathlib.Core.Path.{_≡_}
-use mathlib.Core.Bool.{true}
+use mathlib.Core.Bool.{true, false}
 use mathlib.Core.List.{List, [], _∷_, _++_}
 use lib.ListN.{length}
+use Rattle.answer.specs.Sizes.{maxPacket, maxName}
 use Rattle.octets.specs.Lists.{cells}
 use Rattle.octets.specs.Octets.{allHex, hexAt, digits, number, decimal}
+use Rattle.packet.specs.declared.End.{End}
+use Rattle.packet.specs.declared.End.the-variants.{Peer, Server}
 
--- ---- the two messages, in ASCII
--- `S=`
+-- ---- places and sizes
+-- a Challenge's name, 1 to 994 octets
+abbrev pub challengeNameAt : ℕ
+challengeNameAt = 26
+
+abbrev pub maxChallengeName : ℕ
+maxChallengeName = maxPacket - challengeNameAt
+
+-- a Response's name
+abbrev pub responseNameAt : ℕ
+responseNameAt = 59
+
+-- the text of a Success Request
+abbrev pub successTextAt : ℕ
+successTextAt = 54
+
+-- ---- the two messages, in ASCII: `S=`, `E=`, ` R=`, ` C=`, ` V=`, ` M=`
 abbrev pub wordS : List ℕ
 wordS = 83 ∷ 61 ∷ []
 
--- `E=`
 abbrev pub wordE : List ℕ
 wordE = 69 ∷ 61 ∷ []
 
--- ` R=`
 abbrev pub wordR : List ℕ
 wordR = 32 ∷ 82 ∷ 61 ∷ []
 
--- ` C=`
 abbrev pub wordC : List ℕ
 wordC = 32 ∷ 67 ∷ 61 ∷ []
 
--- ` V=`
 abbrev pub wordV : List ℕ
 wordV = 32 ∷ 86 ∷ 61 ∷ []
 
--- ` M=`
 abbrev pub wordM : List ℕ
 wordM = 32 ∷ 77 ∷ 61 ∷ []
 
@@ -77,8 +90,8 @@ successRequest id chapid string text = chapPacket 1 3 id chapid (successMessage 
 
 -- no leading zeros, R as its digit, C in upper case, V=3
 unfoldable pub failureRequest : ℕ → ℕ → ℕ → ℕ → List ℕ → List ℕ → List ℕ
-failureRequest id chapid code retry challenge text =
-    chapPacket 1 4 id chapid (failureMessage (decimal code) (48 + retry) (cells 32 (hexAt challenge)) (51 ∷ []) text)
+failureRequest id chapid error retry challenge text =
+    chapPacket 1 4 id chapid (failureMessage (decimal error) (48 + retry) (cells 32 (hexAt challenge)) (51 ∷ []) text)
 
 -- ---- the others
 abbrev pub successResponse : ℕ → List ℕ
@@ -92,3 +105,14 @@ eapSuccess id = 3 ∷ id ∷ 0 ∷ 4 ∷ []
 
 abbrev pub eapFailure : ℕ → List ℕ
 eapFailure id = 4 ∷ id ∷ 0 ∷ 4 ∷ []
+
+-- ---- which octets are a packet for an end: one constructor for each row of the table
+pub data Formed : End → List ℕ → Type 0 where
+  a-challenge : (id chapid : ℕ) (challenge name : List ℕ) → length challenge ≡ 16 → 1 ≤ length name → Formed Peer (challengePacket id chapid challenge name)
+  a-response : (id chapid : ℕ) (peer response name : List ℕ) → length peer ≡ 16 → length response ≡ 24 → length name ≤ maxName → Formed Server (responsePacket id chapid peer response name)
+  a-success-request : (id chapid : ℕ) (s text : List ℕ) → length s ≡ 40 → allHex false s ≡ true → Formed Peer (chapPacket 1 3 id chapid (successMessage s text))
+  a-failure-request : (id chapid : ℕ) (e : List ℕ) (retry : ℕ) (c v text : List ℕ) → FailureSpelling e retry c v → Formed Peer (chapPacket 1 4 id chapid (failureMessage e (48 + retry) c v text))
+  a-success-response : (id : ℕ) → Formed Server (successResponse id)
+  a-failure-response : (id : ℕ) → Formed Server (failureResponse id)
+  an-eap-success : (id : ℕ) → Formed Peer (eapSuccess id)
+  an-eap-failure : (id : ℕ) → Formed Peer (eapFailure id)

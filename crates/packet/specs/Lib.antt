@@ -1,4 +1,5 @@
 pub mod Forms
-pub mod Formed
+pub mod Frame
+pub mod Inner
+pub mod Kinds
 pub mod Reader
-pub mod Order

@@ -1,14 +1,39 @@
 // The packets of document 01, "Packet forms", and their reader.
 ghost use mathlib.Core.Path.{_≡_};
-ghost use Prim.Native.Nat.{_≤_};
-ghost use lib.ListN.{drop, getD};
+ghost use mathlib.Core.Bool.{false, not, _&&_, _||_};
+ghost use Prim.Native.Nat.{_+_, _-_, _≤_};
+ghost use lib.ListN.{length, getD, drop};
+ghost use lib.Dec.{ltb, leb, eqb};
 ghost use Rattle.octets.specs.Lists.{cells, sized, part};
-ghost use Rattle.octets.specs.Octets.{digits, number, unhexAt};
-ghost use Rattle.packet.specs.Reader.{toldReading, readPacket, readCut, readWhole, readAt, readAtPeer, readAtServer, chapOk, chapRead, readChallenge, readResponse, readSuccess, readFailure, failureMiddle, failureEnd, failureVersion, failureCode, isBit, failureKind, isVersion, failureRead, bareRead, readBare};
+ghost use Rattle.octets.specs.Octets.{octetIs, numberAt, number, unhexAt};
+ghost use Rattle.octets.specs.declared.Order.the-variants as order;
+ghost use Rattle.answer.specs.Outcome.{gives};
+ghost use Rattle.answer.specs.Sizes.{maxPacket};
+ghost use Rattle.packet.specs.Frame.{frameOf, toldFrame};
+ghost use Rattle.packet.specs.Kinds.{kindNumber, isKind};
+ghost use Rattle.packet.specs.Inner.{Counted, failureRead, failureEnd, failureRest, failureMiddle, atPeer, atServer, atEnd};
+ghost use Rattle.packet.specs.Reader.{place, reading, toldReading, challengeFormed, readChallenge, responseFormed, readResponse, successFormed, readSuccess, failureOf, readFailure, readBare, readCut, readPacket};
 use answer::ChapId;
 use answer::Identifier;
 use answer::Refusal;
 use octets::Order;
+
+// Where a packet's name or text starts.
+pub const CHALLENGE_NAME_AT: usize = 26;
+
+pub const RESPONSE_NAME_AT: usize = 59;
+
+pub const SUCCESS_TEXT_AT: usize = 54;
+
+const MAX_RESPONSE: usize = RESPONSE_NAME_AT + answer::MAX_NAME;
+
+const NOWHERE: Place = Place { start: 0, len: 0 };
+
+const CHALLENGE: Place = Place { start: 10, len: 16 };
+
+const NT_RESPONSE: Place = Place { start: 34, len: 24 };
+
+const STRING: Place = Place { start: 11, len: 40 };
 
 // The end that a packet is read for.
 pub enum End {
@@ -29,6 +54,29 @@ pub enum Kind {
     EapFailure,
 }
 
+fn kind_number(kind: Kind) -> u8
+    ensures { λ r. ⌜ r ≡ kindNumber kind ⌝ }
+{
+    match kind {
+        Kind::Challenge => 0,
+        Kind::Response => 1,
+        Kind::SuccessRequest => 2,
+        Kind::FailureRequest => 3,
+        Kind::RetryRequest => 4,
+        Kind::SuccessResponse => 5,
+        Kind::FailureResponse => 6,
+        Kind::EapSuccess => 7,
+        Kind::EapFailure => 8,
+    }
+}
+
+// Whether two packets are of one kind.
+pub fn is_kind(a: Kind, b: Kind) -> bool
+    ensures { λ r. ⌜ r ≡ isKind a b ⌝ }
+{
+    kind_number(a) == kind_number(b)
+}
+
 // Where a part of a packet lies.
 pub struct Place {
     pub start: usize,
@@ -42,8 +90,8 @@ pub struct Packet {
     pub chapid: ChapId,
     // L
     pub length: usize,
-    // E of a Failure Request
-    pub code: u64,
+    // the number of E= in a Failure Request
+    pub error: u64,
     // the challenge; a Response's peer challenge; the 32 digits of a Failure Request's C
     pub challenge: Place,
     // a Response's NT-Response; a Success Request's 40 digits
@@ -57,30 +105,54 @@ pub enum Reading {
     Read(Packet),
 }
 
-// What 16 asks: L is 9 or more, and MS-Length is L - 5.
-fn chap_ok(q: &[u8]) -> bool
-    ensures { λ r. ⌜ r ≡ chapOk (now (q .entry)) ⌝ }
+// L, or why the octets lent hold no packet of L octets.
+pub enum Framed {
+    Refused(Refusal),
+    Of(usize),
+}
+
+// 10 to 12, of any packet of EAP.
+pub fn frame(p: &[u8]) -> Framed
+    ensures { λ r. ⌜ toldFrame r ≡ frameOf (now (p .entry)) ⌝ }
+{
+    if p.len() < 4 {
+        return Framed::Refused(Refusal::Short);
+    }
+    let l = octets::number_at(Order::Big, p, 2);
+    if l < 4 {
+        return Framed::Refused(Refusal::BadLength);
+    }
+    if p.len() < l {
+        return Framed::Refused(Refusal::BadLength);
+    }
+    if answer::MAX_PACKET < l {
+        return Framed::Refused(Refusal::TooLong);
+    }
+    Framed::Of(l)
+}
+
+// Number 16: L is under 9, or MS-Length is not L - 5.
+fn bad_ms_length(q: &[u8]) -> bool
+    ensures { λ r. ⌜ r ≡ (ltb (length (now (q .entry))) 9 || not (eqb (numberAt order.Big (now (q .entry)) 7) (length (now (q .entry)) - 5))) ⌝ }
 {
     let l = q.len();
     if l < 9 {
-        return false;
+        return true;
     }
     let m = octets::number_at(Order::Big, q, 7);
-    m == l - 5
+    m != l - 5
 }
-
-const NOWHERE: Place = Place { start: 0, len: 0 };
 
 // A packet with an MS-CHAPv2-ID, whose name or text goes from tail to L.
 fn chap_read(
     kind: Kind,
     q: &[u8],
-    code: u64,
+    error: u64,
     challenge: Place,
     response: Place,
     tail: usize,
 ) -> Reading
-    ensures { λ r. ⌜ toldReading r ≡ chapRead kind (now (q .entry)) code challenge response tail ⌝ }
+    ensures { λ r. ⌜ toldReading r ≡ gives (reading kind (getD (now (q .entry)) 1 0) (getD (now (q .entry)) 6 0) (length (now (q .entry))) error challenge response (place tail (length (drop tail (now (q .entry)))))) ⌝ }
 {
     let id = octets::octet(q, 1);
     let chapid = octets::octet(q, 6);
@@ -90,7 +162,7 @@ fn chap_read(
         id: Identifier(id),
         chapid: ChapId(chapid),
         length: q.len(),
-        code,
+        error,
         challenge,
         response,
         tail: Place {
@@ -100,87 +172,101 @@ fn chap_read(
     })
 }
 
+fn challenge_formed(q: &[u8]) -> bool
+    ensures { λ r. ⌜ r ≡ challengeFormed (now (q .entry)) ⌝ }
+{
+    if q.len() <= CHALLENGE_NAME_AT {
+        return false;
+    }
+    octets::octet_is(q, 9, 16)
+}
+
 fn read_challenge(q: &[u8]) -> Reading
     ensures { λ r. ⌜ toldReading r ≡ readChallenge (now (q .entry)) ⌝ }
 {
-    if !chap_ok(q) {
+    if bad_ms_length(q) {
         return Reading::Refused(Refusal::BadMsLength);
     }
-    if q.len() < 27 {
+    if !challenge_formed(q) {
         return Reading::Refused(Refusal::BadForm);
     }
-    if !octets::octet_is(q, 9, 16) {
-        return Reading::Refused(Refusal::BadForm);
+    chap_read(Kind::Challenge, q, 0, CHALLENGE, NOWHERE, CHALLENGE_NAME_AT)
+}
+
+fn response_formed(q: &[u8]) -> bool
+    ensures { λ r. ⌜ r ≡ responseFormed (now (q .entry)) ⌝ }
+{
+    if q.len() < RESPONSE_NAME_AT {
+        return false;
     }
-    chap_read(
-        Kind::Challenge,
-        q,
-        0,
-        Place { start: 10, len: 16 },
-        NOWHERE,
-        26,
-    )
+    if MAX_RESPONSE < q.len() {
+        return false;
+    }
+    if !octets::octet_is(q, 9, 49) {
+        return false;
+    }
+    if !octets::stands_at(q, 26, &[0, 0, 0, 0, 0, 0, 0, 0]) {
+        return false;
+    }
+    octets::octet_is(q, 58, 0)
 }
 
 fn read_response(q: &[u8]) -> Reading
     ensures { λ r. ⌜ toldReading r ≡ readResponse (now (q .entry)) ⌝ }
 {
-    if !chap_ok(q) {
+    if bad_ms_length(q) {
         return Reading::Refused(Refusal::BadMsLength);
     }
-    if q.len() < 59 {
-        return Reading::Refused(Refusal::BadForm);
-    }
-    if 315 < q.len() {
-        return Reading::Refused(Refusal::BadForm);
-    }
-    if !octets::octet_is(q, 9, 49) {
-        return Reading::Refused(Refusal::BadForm);
-    }
-    if !octets::stands_at(q, 26, &[0, 0, 0, 0, 0, 0, 0, 0]) {
-        return Reading::Refused(Refusal::BadForm);
-    }
-    if !octets::octet_is(q, 58, 0) {
+    if !response_formed(q) {
         return Reading::Refused(Refusal::BadForm);
     }
     chap_read(
         Kind::Response,
         q,
         0,
-        Place { start: 10, len: 16 },
-        Place { start: 34, len: 24 },
-        59,
+        CHALLENGE,
+        NT_RESPONSE,
+        RESPONSE_NAME_AT,
     )
+}
+
+fn success_formed(q: &[u8]) -> bool
+    ensures { λ r. ⌜ r ≡ successFormed (now (q .entry)) ⌝ }
+{
+    if !octets::stands_at(q, 9, b"S=") {
+        return false;
+    }
+    if !octets::hex_stands(false, q, 11, 40) {
+        return false;
+    }
+    octets::stands_at(q, 51, b" M=")
 }
 
 fn read_success(q: &[u8]) -> Reading
     ensures { λ r. ⌜ toldReading r ≡ readSuccess (now (q .entry)) ⌝ }
 {
-    if !chap_ok(q) {
+    if bad_ms_length(q) {
         return Reading::Refused(Refusal::BadMsLength);
     }
-    if !octets::stands_at(q, 9, b"S=") {
+    if !success_formed(q) {
         return Reading::Refused(Refusal::BadForm);
     }
-    if !octets::hex_stands(false, q, 11, 40) {
-        return Reading::Refused(Refusal::BadForm);
+    chap_read(Kind::SuccessRequest, q, 0, NOWHERE, STRING, SUCCESS_TEXT_AT)
+}
+
+// Whether n is 1 to 10.
+fn few_digits(n: usize) -> bool
+    ensures { λ r. ⌜ r ≡ (leb 1 n && leb n 10) ⌝ }
+{
+    if n < 1 {
+        return false;
     }
-    if !octets::stands_at(q, 51, b" M=") {
-        return Reading::Refused(Refusal::BadForm);
-    }
-    chap_read(
-        Kind::SuccessRequest,
-        q,
-        0,
-        NOWHERE,
-        Place { start: 11, len: 40 },
-        54,
-    )
+    n <= 10
 }
 
 // Whether the digit 0 or 1 stands at i.
 fn is_bit(q: &[u8], i: usize) -> bool
-    ensures { λ r. ⌜ r ≡ isBit (now (q .entry)) i ⌝ }
+    ensures { λ r. ⌜ r ≡ (octetIs (now (q .entry)) i 48 || octetIs (now (q .entry)) i 49) ⌝ }
 {
     if octets::octet_is(q, i, 48) {
         return true;
@@ -188,10 +274,12 @@ fn is_bit(q: &[u8], i: usize) -> bool
     octets::octet_is(q, i, 49)
 }
 
+// The kind of a Failure Request, by the digit of R at i.
 fn failure_kind(q: &[u8], i: usize) -> Kind
-    ensures { λ r. ⌜ r ≡ failureKind (now (q .entry)) i ⌝ }
+    ensures { λ r. ⌜ r ≡ failureOf (getD (now (q .entry)) i 0 - 48) ⌝ }
 {
-    if octets::octet_is(q, i, 49) {
+    let digit = octets::octet(q, i);
+    if digit == 49 {
         return Kind::RetryRequest;
     }
     Kind::FailureRequest
@@ -199,135 +287,104 @@ fn failure_kind(q: &[u8], i: usize) -> Kind
 
 // How many digits stand at i.
 fn digits_at(q: &[u8], i: usize) -> usize
-    ensures { λ r. ⌜ r ≡ digits (drop i (now (q .entry))) ⌝ }
+    requires { ⌜ length (now q) ≤ maxPacket ⌝ }
+    ensures { λ r. ⌜ Counted (now (q .entry)) i r ⌝ }
 {
     octets::digits_of(octets::rest(q, i))
 }
 
 // The number of the n digits at i.
-fn number_at(q: &[u8], i: usize, n: usize) -> u64
+fn decimal_at(q: &[u8], i: usize, n: usize) -> u64
     ensures { λ r. ⌜ r ≡ number (part (now (q .entry)) i n) ⌝ }
 {
     octets::number_of(octets::part(q, i, n))
 }
 
-// Whether the number of the n digits at i is 3.
+// Whether the n digits at i are 1 to 10, and their number is 3.
 fn is_version(q: &[u8], i: usize, n: usize) -> bool
-    ensures { λ r. ⌜ r ≡ isVersion (now (q .entry)) i n ⌝ }
+    ensures { λ r. ⌜ r ≡ ((leb 1 n && leb n 10) && eqb (number (part (now (q .entry)) i n)) 3) ⌝ }
 {
-    let v = number_at(q, i, n);
+    if !few_digits(n) {
+        return false;
+    }
+    let v = decimal_at(q, i, n);
     v == 3
 }
 
-fn failure_read(q: &[u8], a: usize, b: usize) -> Reading
-    requires { ⌜ (a ≤ 10) × (b ≤ 10) ⌝ }
-    ensures { λ r. ⌜ toldReading r ≡ failureRead (now (q .entry)) a b ⌝ }
+// A Failure Request with e digits of E and v of V.
+fn failure_read(q: &[u8], e: usize, v: usize) -> Reading
+    requires { ⌜ (e ≤ maxPacket) × (v ≤ maxPacket) ⌝ }
+    ensures { λ r. ⌜ toldReading r ≡ failureRead (now (q .entry)) e v ⌝ }
 {
-    let kind = failure_kind(q, 14 + a);
-    let code = number_at(q, 11, a);
-    chap_read(
-        kind,
-        q,
-        code,
-        Place {
-            start: 18 + a,
-            len: 32,
-        },
-        NOWHERE,
-        56 + a + b,
-    )
+    let kind = failure_kind(q, 14 + e);
+    let error = decimal_at(q, 11, e);
+    let challenge = Place {
+        start: 18 + e,
+        len: 32,
+    };
+    chap_read(kind, q, error, challenge, NOWHERE, 56 + e + v)
 }
 
-// From the b digits of V, after the a digits of E.
-fn failure_end(q: &[u8], a: usize, b: usize) -> Reading
-    requires { ⌜ a ≤ 10 ⌝ }
-    ensures { λ r. ⌜ toldReading r ≡ failureEnd (now (q .entry)) a b ⌝ }
+fn failure_end(q: &[u8], e: usize, v: usize) -> Reading
+    requires { ⌜ (e ≤ maxPacket) × (v ≤ maxPacket) ⌝ }
+    ensures { λ r. ⌜ toldReading r ≡ failureEnd (now (q .entry)) e v ⌝ }
 {
-    if b < 1 {
+    if !is_version(q, 53 + e, v) {
         return Reading::Refused(Refusal::BadForm);
     }
-    if 10 < b {
+    if !octets::stands_at(q, 53 + e + v, b" M=") {
         return Reading::Refused(Refusal::BadForm);
     }
-    if !is_version(q, 53 + a, b) {
-        return Reading::Refused(Refusal::BadForm);
-    }
-    if !octets::stands_at(q, 53 + a + b, b" M=") {
-        return Reading::Refused(Refusal::BadForm);
-    }
-    failure_read(q, a, b)
+    failure_read(q, e, v)
 }
 
-fn failure_version(q: &[u8], a: usize) -> Reading
-    requires { ⌜ a ≤ 10 ⌝ }
-    ensures { λ r. ⌜ toldReading r ≡ failureVersion (now (q .entry)) a ⌝ }
+// From V on.
+fn failure_rest(q: &[u8], e: usize) -> Reading
+    requires { ⌜ (e ≤ maxPacket) × (length (now q) ≤ maxPacket) ⌝ }
+    ensures { λ r. ⌜ toldReading r ≡ failureRest (now (q .entry)) e ⌝ }
 {
-    let b = digits_at(q, 53 + a);
-    failure_end(q, a, b)
+    let v = digits_at(q, 53 + e);
+    failure_end(q, e, v)
 }
 
-// From the a digits of E.
-fn failure_middle(q: &[u8], a: usize) -> Reading
-    ensures { λ r. ⌜ toldReading r ≡ failureMiddle (now (q .entry)) a ⌝ }
+// From the e digits of E on.
+fn failure_middle(q: &[u8], e: usize) -> Reading
+    requires { ⌜ (e ≤ maxPacket) × (length (now q) ≤ maxPacket) ⌝ }
+    ensures { λ r. ⌜ toldReading r ≡ failureMiddle (now (q .entry)) e ⌝ }
 {
-    if a < 1 {
+    if !few_digits(e) {
         return Reading::Refused(Refusal::BadForm);
     }
-    if 10 < a {
+    if !octets::stands_at(q, 11 + e, b" R=") {
         return Reading::Refused(Refusal::BadForm);
     }
-    if !octets::stands_at(q, 11 + a, b" R=") {
+    if !is_bit(q, 14 + e) {
         return Reading::Refused(Refusal::BadForm);
     }
-    if !is_bit(q, 14 + a) {
+    if !octets::stands_at(q, 15 + e, b" C=") {
         return Reading::Refused(Refusal::BadForm);
     }
-    if !octets::stands_at(q, 15 + a, b" C=") {
+    if !octets::hex_stands(true, q, 18 + e, 32) {
         return Reading::Refused(Refusal::BadForm);
     }
-    if !octets::hex_stands(true, q, 18 + a, 32) {
+    if !octets::stands_at(q, 50 + e, b" V=") {
         return Reading::Refused(Refusal::BadForm);
     }
-    if !octets::stands_at(q, 50 + a, b" V=") {
-        return Reading::Refused(Refusal::BadForm);
-    }
-    failure_version(q, a)
-}
-
-fn failure_code(q: &[u8]) -> Reading
-    ensures { λ r. ⌜ toldReading r ≡ failureCode (now (q .entry)) ⌝ }
-{
-    let a = digits_at(q, 11);
-    failure_middle(q, a)
+    failure_rest(q, e)
 }
 
 fn read_failure(q: &[u8]) -> Reading
+    requires { ⌜ length (now q) ≤ maxPacket ⌝ }
     ensures { λ r. ⌜ toldReading r ≡ readFailure (now (q .entry)) ⌝ }
 {
-    if !chap_ok(q) {
+    if bad_ms_length(q) {
         return Reading::Refused(Refusal::BadMsLength);
     }
     if !octets::stands_at(q, 9, b"E=") {
         return Reading::Refused(Refusal::BadForm);
     }
-    failure_code(q)
-}
-
-// A packet with no MS-CHAPv2-ID.
-fn bare_read(kind: Kind, q: &[u8]) -> Reading
-    ensures { λ r. ⌜ toldReading r ≡ bareRead kind (now (q .entry)) ⌝ }
-{
-    let id = octets::octet(q, 1);
-    Reading::Read(Packet {
-        kind,
-        id: Identifier(id),
-        chapid: ChapId(0),
-        length: q.len(),
-        code: 0,
-        challenge: NOWHERE,
-        response: NOWHERE,
-        tail: NOWHERE,
-    })
+    let e = digits_at(q, 11);
+    failure_middle(q, e)
 }
 
 // A packet of l octets with nothing after its OpCode, or with no OpCode.
@@ -337,13 +394,23 @@ fn read_bare(kind: Kind, l: usize, q: &[u8]) -> Reading
     if q.len() != l {
         return Reading::Refused(Refusal::BadForm);
     }
-    bare_read(kind, q)
+    let id = octets::octet(q, 1);
+    Reading::Read(Packet {
+        kind,
+        id: Identifier(id),
+        chapid: ChapId(0),
+        length: q.len(),
+        error: 0,
+        challenge: NOWHERE,
+        response: NOWHERE,
+        tail: NOWHERE,
+    })
 }
 
 // The Type and the OpCode count as 0 where there are none, which no packet has.
-fn read_at_peer(code: u8, kind: u8, op: u8, q: &[u8]) -> Reading
-    requires { ⌜ (kind ≡ getD (now q) 4 0) × (op ≡ getD (now q) 5 0) ⌝ }
-    ensures { λ r. ⌜ toldReading r ≡ readAtPeer code kind op (now (q .entry)) ⌝ }
+fn read_at_peer(code: u8, eaptype: u8, op: u8, q: &[u8]) -> Reading
+    requires { ⌜ length (now q) ≤ maxPacket ⌝ }
+    ensures { λ r. ⌜ toldReading r ≡ atPeer code eaptype op (now (q .entry)) ⌝ }
 {
     if code == 3 {
         return read_bare(Kind::EapSuccess, 4, q);
@@ -354,7 +421,7 @@ fn read_at_peer(code: u8, kind: u8, op: u8, q: &[u8]) -> Reading
     if code != 1 {
         return Reading::Refused(Refusal::BadCode);
     }
-    if kind != 26 {
+    if eaptype != 26 {
         return Reading::Refused(Refusal::BadType);
     }
     if op == 1 {
@@ -369,14 +436,13 @@ fn read_at_peer(code: u8, kind: u8, op: u8, q: &[u8]) -> Reading
     Reading::Refused(Refusal::BadOpCode)
 }
 
-fn read_at_server(code: u8, kind: u8, op: u8, q: &[u8]) -> Reading
-    requires { ⌜ (kind ≡ getD (now q) 4 0) × (op ≡ getD (now q) 5 0) ⌝ }
-    ensures { λ r. ⌜ toldReading r ≡ readAtServer code kind op (now (q .entry)) ⌝ }
+fn read_at_server(code: u8, eaptype: u8, op: u8, q: &[u8]) -> Reading
+    ensures { λ r. ⌜ toldReading r ≡ atServer code eaptype op (now (q .entry)) ⌝ }
 {
     if code != 2 {
         return Reading::Refused(Refusal::BadCode);
     }
-    if kind != 26 {
+    if eaptype != 26 {
         return Reading::Refused(Refusal::BadType);
     }
     if op == 2 {
@@ -391,50 +457,36 @@ fn read_at_server(code: u8, kind: u8, op: u8, q: &[u8]) -> Reading
     Reading::Refused(Refusal::BadOpCode)
 }
 
-fn read_at(end: End, code: u8, kind: u8, op: u8, q: &[u8]) -> Reading
-    requires { ⌜ (kind ≡ getD (now q) 4 0) × (op ≡ getD (now q) 5 0) ⌝ }
-    ensures { λ r. ⌜ toldReading r ≡ readAt end code kind op (now (q .entry)) ⌝ }
+fn read_at(end: End, code: u8, eaptype: u8, op: u8, q: &[u8]) -> Reading
+    requires { ⌜ length (now q) ≤ maxPacket ⌝ }
+    ensures { λ r. ⌜ toldReading r ≡ atEnd end code eaptype op (now (q .entry)) ⌝ }
 {
     match end {
-        End::Peer => read_at_peer(code, kind, op, q),
-        End::Server => read_at_server(code, kind, op, q),
+        End::Peer => read_at_peer(code, eaptype, op, q),
+        End::Server => read_at_server(code, eaptype, op, q),
     }
 }
 
 // A packet cut at L.
-fn read_whole(end: End, q: &[u8]) -> Reading
-    ensures { λ r. ⌜ toldReading r ≡ readWhole end (now (q .entry)) ⌝ }
+fn read_cut(end: End, q: &[u8]) -> Reading
+    requires { ⌜ length (now q) ≤ maxPacket ⌝ }
+    ensures { λ r. ⌜ toldReading r ≡ readCut end (now (q .entry)) ⌝ }
 {
     let code = octets::octet(q, 0);
-    let kind = octets::octet(q, 4);
+    let eaptype = octets::octet(q, 4);
     let op = octets::octet(q, 5);
-    read_at(end, code, kind, op, q)
-}
-
-fn read_cut(end: End, p: &[u8], l: usize) -> Reading
-    ensures { λ r. ⌜ toldReading r ≡ readCut end (now (p .entry)) l ⌝ }
-{
-    if l < 4 {
-        return Reading::Refused(Refusal::BadLength);
-    }
-    if p.len() < l {
-        return Reading::Refused(Refusal::BadLength);
-    }
-    if 1020 < l {
-        return Reading::Refused(Refusal::TooLong);
-    }
-    read_whole(end, octets::part(p, 0, l))
+    read_at(end, code, eaptype, op, q)
 }
 
 // Reads a packet for an end. Octets after L are not looked at.
 pub fn read(end: End, p: &[u8]) -> Reading
     ensures { λ r. ⌜ toldReading r ≡ readPacket end (now (p .entry)) ⌝ }
 {
-    if p.len() < 4 {
-        return Reading::Refused(Refusal::Fragment);
+    let framed = frame(p);
+    match framed {
+        Framed::Refused(why) => Reading::Refused(why),
+        Framed::Of(l) => read_cut(end, octets::part(p, 0, l)),
     }
-    let l = octets::number_at(Order::Big, p, 2);
-    read_cut(end, p, l)
 }
 
 // Sixteen octets from a place on, and zeros where there are fewer: a challenge.

@@ -1,36 +1,34 @@
--- 01, "What a call answers" and "The logger's moves (peer)": what each call of the logger does.
+-- 01, "What a call answers" and "The logger's moves (peer)": what each call of the peer does.
 use Prim.Native.Nat.{ℕ}
 use mathlib.Core.List.{List, []}
-use mathlib.Core.Bool.{Bool, not}
-use lib.ListN.{length, take, drop, replicate}
+use mathlib.Core.Bool.{not}
+use lib.ListN.{length, take, replicate}
 use lib.Dec.{ltb, eqb}
 use Rattle.octets.specs.Choice.{pick}
-use Rattle.octets.specs.Lists.{part, cells, sized}
+use Rattle.octets.specs.Lists.{part, cells}
 use Rattle.octets.specs.Octets.{octetIs, same, unhexAt}
 use Rattle.answer.specs.Outcome.{Told, Outcome, outcome, refused, fitting}
+use Rattle.answer.specs.Sizes.{maxName}
 use Rattle.packet.specs.declared.End.the-variants as end
 use Rattle.packet.specs.declared.Packet.{Packet}
-use Rattle.packet.specs.Reader.{readPacket}
+use Rattle.packet.specs.Reader.{readPacket, challengeIn}
 use Rattle.packet.specs.Forms.{successResponse, failureResponse}
 use Rattle.peer.specs.declared.Stage.{Stage}
 use Rattle.peer.specs.declared.Stage.the-variants.{Begin, SuccessResponseSent, FailureResponseSent, Success, Failed}
 use Rattle.peer.specs.declared.Move.{Move}
 use Rattle.peer.specs.declared.Move.the-variants.{NotTaken, WrongIdentifier, Again, Respond, Confirm, Fail, Wait, Succeed, End}
+use Rattle.peer.specs.declared.Keys.{Keys}
 use Rattle.peer.specs.declared.Peer.{Peer}
-use Rattle.peer.specs.State.{nameOf, lastRequest, lastReply, lastId, responseTo, rightDigits, fresh, staged, answered, responded, kept, supplied}
+use Rattle.peer.specs.State.{ownName, lastRequest, lastReply, lastId, responseTo, digitsTo, initial, staged, answered, responded, awaiting, supplied}
 use Rattle.peer.specs.Moves.{waiting, turnOf}
 
 -- ---- made from name and hash: 0, or 23 and a FAILED peer, all else zero
 unfoldable pub newOf : List ℕ → List ℕ → Outcome Peer
 newOf name hash =
-    pick (ltb 256 (length name)) (outcome 23 [] (fresh Failed [] (replicate 16 0)))
-    (outcome 0 [] (fresh Begin name hash))
+    pick (ltb maxName (length name)) (outcome 23 [] (initial Failed [] (replicate 16 0)))
+    (outcome 0 [] (initial Begin name hash))
 
 -- ---- a packet. q is its first L octets, k what was read of it
--- a Challenge's 16 octets
-unfoldable pub challengeIn : Packet → List ℕ → List ℕ
-challengeIn k q = sized 16 (drop (k .challenge .start) q)
-
 -- the 16 octets of C
 unfoldable pub renewedIn : Packet → List ℕ → List ℕ
 renewedIn k q = cells 16 (unhexAt (part q (k .challenge .start) 32))
@@ -39,49 +37,61 @@ renewedIn k q = cells 16 (unhexAt (part q (k .challenge .start) 32))
 unfoldable pub digitsIn : Packet → List ℕ → List ℕ
 digitsIn k q = part q (k .response .start) 40
 
--- "brings the stored reply again (0, or 20), state unchanged"
-unfoldable pub againOf : Peer → ℕ → Outcome Peer
-againOf p room = fitting room p (outcome 0 (lastReply p) p)
+-- ---- what a move answers, were there room: its number, and its reply
+abbrev pub says : ℕ → Outcome (Unit {0})
+says n = outcome n [] tt
 
--- the Response to a Challenge
-unfoldable pub responseIn : Peer → Packet → List ℕ → List ℕ → List ℕ
-responseIn p k q random = responseTo (k .id .0) (k .chapid .0) (challengeIn k q) random (nameOf p) (p .hash)
+abbrev pub writes : List ℕ → Outcome (Unit {0})
+writes w = outcome 0 w tt
 
-unfoldable pub respondedTo : Peer → Packet → List ℕ → List ℕ → Peer
-respondedTo p k q random = responded (challengeIn k q) random (k .chapid) q (responseIn p k q random) p
+-- to a Success Request, right string or other string
+unfoldable pub confirmation : Packet → List ℕ → Keys → List ℕ → Outcome (Unit {0})
+confirmation k q keys name =
+    pick (same (digitsIn k q) (digitsTo (keys .authenticator) (keys .own) name (keys .hash))) (writes (successResponse (k .id .0)))
+    (says 3)
 
-unfoldable pub respondOf : Peer → Packet → List ℕ → List ℕ → ℕ → Outcome Peer
-respondOf p k q random room = fitting room p (outcome 0 (responseIn p k q random) (respondedTo p k q random))
+-- the keys, the name and `last`, the stored reply, are the state's
+unfoldable pub answerOf : Move → Packet → List ℕ → List ℕ → Keys → List ℕ → List ℕ → Outcome (Unit {0})
+answerOf NotTaken k q random keys name last = says 19
+answerOf WrongIdentifier k q random keys name last = says 18
+answerOf Again k q random keys name last = writes last
+answerOf Respond k q random keys name last = writes (responseTo (k .id .0) (k .chapid .0) (challengeIn k q) random name (keys .hash))
+answerOf Confirm k q random keys name last = confirmation k q keys name
+answerOf Fail k q random keys name last = writes (failureResponse (k .id .0))
+answerOf Wait k q random keys name last = says 1
+answerOf Succeed k q random keys name last = says 2
+answerOf End k q random keys name last = says 3
 
--- the Success Response or Failure Response w
-unfoldable pub sendBare : Peer → Stage → List ℕ → List ℕ → ℕ → Outcome Peer
-sendBare p stage q w room = fitting room p (outcome 0 w (answered stage q w p))
+-- ---- what a number leaves, where w is the reply
+-- 0: the next state. A repeat changes nothing
+unfoldable pub nextOf : Move → Packet → List ℕ → List ℕ → List ℕ → Peer → Peer
+nextOf NotTaken k q random w p = p
+nextOf WrongIdentifier k q random w p = p
+nextOf Again k q random w p = p
+nextOf Respond k q random w p = responded (challengeIn k q) random (k .chapid) q w p
+nextOf Confirm k q random w p = answered SuccessResponseSent q w p
+nextOf Fail k q random w p = answered FailureResponseSent q w p
+nextOf Wait k q random w p = p
+nextOf Succeed k q random w p = p
+nextOf End k q random w p = p
 
-unfoldable pub acceptOf : Peer → Packet → List ℕ → ℕ → Outcome Peer
-acceptOf p k q room = sendBare p SuccessResponseSent q (successResponse (k .id .0)) room
+unfoldable pub leftBy : ℕ → Move → Packet → List ℕ → List ℕ → List ℕ → Peer → Peer
+leftBy n m k q random w p =
+    pick (eqb n 0) (nextOf m k q random w p)
+    (pick (eqb n 1) (awaiting (renewedIn k q) (k .chapid) q p)
+    (pick (eqb n 2) (staged Success p)
+    (pick (eqb n 3) (staged Failed p)
+    p)))
 
-unfoldable pub concludeOf : Bool → Peer → Packet → List ℕ → ℕ → Outcome Peer
-concludeOf right p k q room = pick right (acceptOf p k q room) (outcome 3 [] (staged Failed p))
+-- ---- a move: its answer a and what that leaves, or 20
+abbrev pub leaving : Outcome (Unit {0}) → Move → Packet → List ℕ → List ℕ → Peer → Outcome Peer
+leaving a m k q random p = outcome (a .number) (a .octets) (leftBy (a .number) m k q random (a .octets) p)
 
-unfoldable pub confirmOf : Peer → Packet → List ℕ → ℕ → Outcome Peer
-confirmOf p k q room = concludeOf (same (digitsIn k q) (rightDigits p)) p k q room
-
-unfoldable pub failOf : Peer → Packet → List ℕ → ℕ → Outcome Peer
-failOf p k q room = sendBare p FailureResponseSent q (failureResponse (k .id .0)) room
-
-unfoldable pub waitOf : Peer → Packet → List ℕ → Outcome Peer
-waitOf p k q = outcome 1 [] (kept (renewedIn k q) (k .chapid) q p)
+abbrev pub keysOf : Peer → Keys
+keysOf p = record { authenticator = p .challenges .authenticator; own = p .challenges .own; hash = p .credentials .hash }
 
 unfoldable pub movedOf : Move → Peer → Packet → List ℕ → List ℕ → ℕ → Outcome Peer
-movedOf NotTaken p k q random room = refused 19 p
-movedOf WrongIdentifier p k q random room = refused 18 p
-movedOf Again p k q random room = againOf p room
-movedOf Respond p k q random room = respondOf p k q random room
-movedOf Confirm p k q random room = confirmOf p k q room
-movedOf Fail p k q random room = failOf p k q room
-movedOf Wait p k q random room = waitOf p k q
-movedOf Succeed p k q random room = outcome 2 [] (staged Success p)
-movedOf End p k q random room = outcome 3 [] (staged Failed p)
+movedOf m p k q random room = fitting room p (leaving (answerOf m k q random (keysOf p) (ownName p) (lastReply p)) m k q random p)
 
 -- the turn that a packet brings, where `last` is the last answered request. Its Identifier is octet 1
 unfoldable pub turnIn : Stage → Packet → List ℕ → List ℕ → Move
@@ -100,20 +110,17 @@ unfoldable pub stepOf : Peer → List ℕ → List ℕ → ℕ → Outcome Peer
 stepOf p s random room = readOf (readPacket end.Peer s) p s random room
 
 -- ---- the two calls of WAITING: 19, 23, 20
--- the Response of new credentials to C, under the kept request's Identifier and MS-CHAPv2-ID
+-- "a Response to C follows, under the kept request's Identifier and MS-CHAPv2-ID"
 unfoldable pub responseBy : Peer → List ℕ → List ℕ → List ℕ → List ℕ
-responseBy p name hash random = responseTo (lastId p) (p .chapid .0) (p .authchallenge) random name hash
-
-unfoldable pub suppliedBy : Peer → List ℕ → List ℕ → List ℕ → Peer
-suppliedBy p name hash random = supplied name hash random (responseBy p name hash random) p
+responseBy p name hash random = responseTo (lastId p) (p .challenges .chapid .0) (p .challenges .authenticator) random name hash
 
 unfoldable pub resumeOf : Peer → List ℕ → List ℕ → List ℕ → ℕ → Outcome Peer
-resumeOf p name hash random room = fitting room p (outcome 0 (responseBy p name hash random) (suppliedBy p name hash random))
+resumeOf p name hash random room = fitting room p (outcome 0 (responseBy p name hash random) (supplied name hash random (responseBy p name hash random) p))
 
 unfoldable pub supplyOf : Peer → List ℕ → List ℕ → List ℕ → ℕ → Outcome Peer
 supplyOf p name hash random room =
     pick (not (waiting (p .stage))) (refused 19 p)
-    (pick (ltb 256 (length name)) (refused 23 p)
+    (pick (ltb maxName (length name)) (refused 23 p)
     (resumeOf p name hash random room))
 
 unfoldable pub giveUpOf : Peer → Outcome Peer

@@ -1,19 +1,26 @@
 -- 01, "The logger's moves (peer)": the state, and what each kind of move makes of it.
-use Prim.Native.Nat.{ℕ}
+use Prim.Native.Nat.{ℕ, _+_}
 use mathlib.Core.List.{List}
 use lib.ListN.{length, getD, take, replicate}
 use Rattle.octets.specs.Lists.{sized}
 use Rattle.mschap.specs.Users.{userOf}
 use Rattle.mschap.specs.Responses.{ntResponse, authenticatorOf, digitsOf}
-use Rattle.packet.specs.Forms.{responsePacket}
+use Rattle.packet.specs.Forms.{responseNameAt, responsePacket}
+use Rattle.answer.specs.Sizes.{maxPacket, maxName}
 use Rattle.answer.specs.declared.ChapId.{ChapId}
 use Rattle.peer.specs.declared.Stage.{Stage}
 use Rattle.peer.specs.declared.Stage.the-variants.{ChallengeResponseSent, Waiting}
+use Rattle.peer.specs.declared.Credentials.{Credentials}
+use Rattle.peer.specs.declared.Challenges.{Challenges}
 use Rattle.peer.specs.declared.Peer.{Peer}
 
+-- the longest reply, a Response with the longest name
+abbrev pub replyRoom : ℕ
+replyRoom = responseNameAt + maxName
+
 -- ---- what a state holds. A length past its array counts as the array's length
-unfoldable pub nameOf : Peer → List ℕ
-nameOf p = take (p .namelen) (p .name)
+unfoldable pub ownName : Peer → List ℕ
+ownName p = take (p .credentials .namelen) (p .credentials .name)
 
 -- the last answered request; in WAITING, the kept one
 unfoldable pub lastRequest : Peer → List ℕ
@@ -39,105 +46,63 @@ digitsTo authenticator own name hash =
 
 -- the outstanding Response
 unfoldable pub outstanding : Peer → List ℕ
-outstanding p = responseTo (lastId p) (p .chapid .0) (p .authchallenge) (p .peerchallenge) (nameOf p) (p .hash)
+outstanding p = responseTo (lastId p) (p .challenges .chapid .0) (p .challenges .authenticator) (p .challenges .own) (ownName p) (p .credentials .hash)
 
 -- "The peer's right string is the one so computed from its own hash and its outstanding Response"
 unfoldable pub rightDigits : Peer → List ℕ
-rightDigits p = digitsTo (p .authchallenge) (p .peerchallenge) (nameOf p) (p .hash)
+rightDigits p = digitsTo (p .challenges .authenticator) (p .challenges .own) (ownName p) (p .credentials .hash)
 
 -- ---- states after a move: "a move changes only what it names; fields not yet set are zero"
--- a fresh peer, and the FAILED one that stands beside number 23
-unfoldable pub fresh : Stage → List ℕ → List ℕ → Peer
-fresh stage name hash = record {
+abbrev pub credentialsOf : List ℕ → List ℕ → Credentials
+credentialsOf name hash = record { name = sized maxName name; namelen = length name; hash = hash }
+
+abbrev pub challengesOf : List ℕ → List ℕ → ChapId → Challenges
+challengesOf authenticator own chapid = record { authenticator = authenticator; own = own; chapid = chapid }
+
+-- a made peer, and the FAILED one that stands beside number 23
+unfoldable pub initial : Stage → List ℕ → List ℕ → Peer
+initial stage name hash = record {
   stage = stage;
-  name = sized 256 name;
-  namelen = length name;
-  hash = hash;
-  authchallenge = replicate 16 0;
-  peerchallenge = replicate 16 0;
-  chapid = record { 0 = 0 };
-  request = replicate 1020 0;
+  credentials = credentialsOf name hash;
+  challenges = challengesOf (replicate 16 0) (replicate 16 0) (record { 0 = 0 });
+  request = replicate maxPacket 0;
   requestlen = 0;
-  reply = replicate 315 0;
+  reply = replicate replyRoom 0;
   replylen = 0;
 }
 
+-- the stage, the credentials and the challenges are new
+abbrev pub atStage : Stage → Credentials → Challenges → Peer → Peer
+atStage stage credentials challenges p =
+    record { stage = stage; credentials = credentials; challenges = challenges; request = p .request; requestlen = p .requestlen; reply = p .reply; replylen = p .replylen }
+
+-- the request q is stored
+abbrev pub withRequest : List ℕ → Peer → Peer
+withRequest q p =
+    record { stage = p .stage; credentials = p .credentials; challenges = p .challenges; request = sized maxPacket q; requestlen = length q; reply = p .reply; replylen = p .replylen }
+
+-- the reply w is stored
+abbrev pub withReply : List ℕ → Peer → Peer
+withReply w p =
+    record { stage = p .stage; credentials = p .credentials; challenges = p .challenges; request = p .request; requestlen = p .requestlen; reply = sized replyRoom w; replylen = length w }
+
 -- the stage alone
 unfoldable pub staged : Stage → Peer → Peer
-staged stage p = record {
-  stage = stage;
-  name = p .name;
-  namelen = p .namelen;
-  hash = p .hash;
-  authchallenge = p .authchallenge;
-  peerchallenge = p .peerchallenge;
-  chapid = p .chapid;
-  request = p .request;
-  requestlen = p .requestlen;
-  reply = p .reply;
-  replylen = p .replylen;
-}
+staged stage p = atStage stage (p .credentials) (p .challenges) p
 
 -- the request q was answered by w
 unfoldable pub answered : Stage → List ℕ → List ℕ → Peer → Peer
-answered stage q w p = record {
-  stage = stage;
-  name = p .name;
-  namelen = p .namelen;
-  hash = p .hash;
-  authchallenge = p .authchallenge;
-  peerchallenge = p .peerchallenge;
-  chapid = p .chapid;
-  request = sized 1020 q;
-  requestlen = length q;
-  reply = sized 315 w;
-  replylen = length w;
-}
+answered stage q w p = atStage stage (p .credentials) (p .challenges) (withRequest q (withReply w p))
 
 -- the Challenge q was answered by the Response w
 unfoldable pub responded : List ℕ → List ℕ → ChapId → List ℕ → List ℕ → Peer → Peer
-responded authenticator own chapid q w p = record {
-  stage = ChallengeResponseSent;
-  name = p .name;
-  namelen = p .namelen;
-  hash = p .hash;
-  authchallenge = authenticator;
-  peerchallenge = own;
-  chapid = chapid;
-  request = sized 1020 q;
-  requestlen = length q;
-  reply = sized 315 w;
-  replylen = length w;
-}
+responded authenticator own chapid q w p = atStage ChallengeResponseSent (p .credentials) (challengesOf authenticator own chapid) (withRequest q (withReply w p))
 
--- the Failure Request q, R=1, is kept with its C
-unfoldable pub kept : List ℕ → ChapId → List ℕ → Peer → Peer
-kept authenticator chapid q p = record {
-  stage = Waiting;
-  name = p .name;
-  namelen = p .namelen;
-  hash = p .hash;
-  authchallenge = authenticator;
-  peerchallenge = p .peerchallenge;
-  chapid = chapid;
-  request = sized 1020 q;
-  requestlen = length q;
-  reply = p .reply;
-  replylen = p .replylen;
-}
+-- "WAITING, keeping that request and C"
+unfoldable pub awaiting : List ℕ → ChapId → List ℕ → Peer → Peer
+awaiting authenticator chapid q p = atStage Waiting (p .credentials) (challengesOf authenticator (p .challenges .own) chapid) (withRequest q p)
 
 -- new credentials answered C by the Response w
 unfoldable pub supplied : List ℕ → List ℕ → List ℕ → List ℕ → Peer → Peer
-supplied name hash own w p = record {
-  stage = ChallengeResponseSent;
-  name = sized 256 name;
-  namelen = length name;
-  hash = hash;
-  authchallenge = p .authchallenge;
-  peerchallenge = own;
-  chapid = p .chapid;
-  request = p .request;
-  requestlen = p .requestlen;
-  reply = sized 315 w;
-  replylen = length w;
-}
+supplied name hash own w p =
+    atStage ChallengeResponseSent (credentialsOf name hash) (challengesOf (p .challenges .authenticator) own (p .challenges .chapid)) (withReply w p)

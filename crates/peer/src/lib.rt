@@ -1,18 +1,22 @@
-// The logger's end: document 01, "The logger's moves (peer)".
+// The peer's end: document 01, "The logger's moves (peer)".
 ghost use mathlib.Core.Path.{_≡_};
 ghost use mathlib.Core.List.{[]};
 ghost use Prim.Native.Nat.{_≤_};
 ghost use lib.ListN.{length, take};
+ghost use lib.Dec.{eqb};
+ghost use Rattle.octets.specs.Choice.{pick};
 ghost use Rattle.octets.specs.Octets.{same};
 ghost use Rattle.answer.specs.Answer.{numberOf, refusalOf};
-ghost use Rattle.answer.specs.Outcome.{Does, refused};
+ghost use Rattle.answer.specs.Outcome.{fitting, refused, Does};
+ghost use Rattle.answer.specs.Sizes.{maxPacket, maxName};
 ghost use Rattle.mschap.specs.Responses.{ntResponse};
-ghost use Rattle.packet.specs.Reader.{toldReading};
+ghost use Rattle.packet.specs.Kinds.{isRequest};
+ghost use Rattle.packet.specs.Reader.{toldReading, challengeIn};
 ghost use Rattle.writers.specs.Writers.{sends};
-ghost use Rattle.peer.specs.Stored.{Named, UserIn, saying, confirming, answerOf, repliedBy, leftBy, resumedBy};
-ghost use Rattle.peer.specs.State.{responseTo, digitsTo, fresh, staged, answered, responded, kept, supplied};
-ghost use Rattle.peer.specs.Moves.{moveOf, sent, waiting, isRequest, repeats, misnumbered, turnOf};
-ghost use Rattle.peer.specs.Calls.{newOf, challengeIn, renewedIn, turnIn, takenOf, readOf, stepOf, resumeOf, supplyOf, giveUpOf};
+ghost use Rattle.peer.specs.Stored.{Named, UserIn};
+ghost use Rattle.peer.specs.State.{replyRoom, responseTo, digitsTo, credentialsOf, initial, atStage, withRequest, withReply, staged, answered, responded, awaiting, supplied};
+ghost use Rattle.peer.specs.Moves.{takes, moveOf, sent, waiting, repeats, misnumbered, turnOf};
+ghost use Rattle.peer.specs.Calls.{newOf, renewedIn, says, confirmation, answerOf, nextOf, leftBy, turnIn, takenOf, readOf, stepOf, resumeOf, supplyOf, giveUpOf};
 use answer::Answer;
 use answer::ChapId;
 use answer::Identifier;
@@ -21,6 +25,7 @@ use packet::End;
 use packet::Kind;
 use packet::Packet;
 use packet::Reading;
+use packet::is_kind;
 use writers::Written;
 
 pub enum Stage {
@@ -46,15 +51,25 @@ enum Move {
     End,
 }
 
-// The state. Of each array with a length the octets past it are zero; a length past its array counts as the array's.
-pub struct Peer {
-    pub stage: Stage,
+// Of each array with a length the octets past it are zero; a length past its array counts as the array's.
+pub struct Credentials {
     pub name: [u8; Peer::MAX_NAME],
     pub namelen: u16,
     pub hash: [u8; 16],
-    pub authchallenge: [u8; 16],
-    pub peerchallenge: [u8; 16],
+}
+
+// The outstanding challenges and MS-CHAPv2-ID.
+pub struct Challenges {
+    pub authenticator: [u8; 16],
+    pub own: [u8; 16],
     pub chapid: ChapId,
+}
+
+// The state.
+pub struct Peer {
+    pub stage: Stage,
+    pub credentials: Credentials,
+    pub challenges: Challenges,
     // the last answered request; in WAITING, the kept one
     pub request: [u8; Peer::MAX_PACKET],
     pub requestlen: u16,
@@ -68,57 +83,38 @@ pub struct PeerStep {
     pub peer: Peer,
 }
 
-fn move_of(stage: Stage, kind: Kind) -> Move
-    ensures { λ r. ⌜ r ≡ moveOf stage kind ⌝ }
+// Whether a stage takes a packet.
+fn takes(stage: Stage, kind: Kind) -> bool
+    ensures { λ r. ⌜ r ≡ takes stage kind ⌝ }
 {
     match stage {
-        Stage::Begin => match kind {
-            Kind::Challenge => Move::Respond,
-            Kind::Response => Move::NotTaken,
-            Kind::SuccessRequest => Move::NotTaken,
-            Kind::FailureRequest => Move::NotTaken,
-            Kind::RetryRequest => Move::NotTaken,
-            Kind::SuccessResponse => Move::NotTaken,
-            Kind::FailureResponse => Move::NotTaken,
-            Kind::EapSuccess => Move::NotTaken,
-            Kind::EapFailure => Move::NotTaken,
-        },
-        Stage::ChallengeResponseSent => match kind {
-            Kind::Challenge => Move::NotTaken,
-            Kind::Response => Move::NotTaken,
-            Kind::SuccessRequest => Move::Confirm,
-            Kind::FailureRequest => Move::Fail,
-            Kind::RetryRequest => Move::Wait,
-            Kind::SuccessResponse => Move::NotTaken,
-            Kind::FailureResponse => Move::NotTaken,
-            Kind::EapSuccess => Move::NotTaken,
-            Kind::EapFailure => Move::End,
-        },
-        Stage::SuccessResponseSent => match kind {
-            Kind::Challenge => Move::NotTaken,
-            Kind::Response => Move::NotTaken,
-            Kind::SuccessRequest => Move::NotTaken,
-            Kind::FailureRequest => Move::NotTaken,
-            Kind::RetryRequest => Move::NotTaken,
-            Kind::SuccessResponse => Move::NotTaken,
-            Kind::FailureResponse => Move::NotTaken,
-            Kind::EapSuccess => Move::Succeed,
-            Kind::EapFailure => Move::End,
-        },
-        Stage::FailureResponseSent => match kind {
-            Kind::Challenge => Move::NotTaken,
-            Kind::Response => Move::NotTaken,
-            Kind::SuccessRequest => Move::NotTaken,
-            Kind::FailureRequest => Move::NotTaken,
-            Kind::RetryRequest => Move::NotTaken,
-            Kind::SuccessResponse => Move::NotTaken,
-            Kind::FailureResponse => Move::NotTaken,
-            Kind::EapSuccess => Move::NotTaken,
-            Kind::EapFailure => Move::End,
-        },
-        Stage::Waiting => Move::NotTaken,
-        Stage::Success => Move::NotTaken,
-        Stage::Failed => Move::NotTaken,
+        Stage::Begin => is_kind(Kind::Challenge, kind),
+        Stage::ChallengeResponseSent => is_kind(Kind::SuccessRequest, kind)
+            | (is_kind(Kind::FailureRequest, kind)
+                | (is_kind(Kind::RetryRequest, kind) | is_kind(Kind::EapFailure, kind))),
+        Stage::SuccessResponseSent => is_kind(Kind::EapSuccess, kind)
+            | is_kind(Kind::EapFailure, kind),
+        Stage::FailureResponseSent => is_kind(Kind::EapFailure, kind),
+        Stage::Waiting => false,
+        Stage::Success => false,
+        Stage::Failed => false,
+    }
+}
+
+// The move that a packet brings where it is taken.
+fn move_of(kind: Kind) -> Move
+    ensures { λ r. ⌜ r ≡ moveOf kind ⌝ }
+{
+    match kind {
+        Kind::Challenge => Move::Respond,
+        Kind::Response => Move::NotTaken,
+        Kind::SuccessRequest => Move::Confirm,
+        Kind::FailureRequest => Move::Fail,
+        Kind::RetryRequest => Move::Wait,
+        Kind::SuccessResponse => Move::NotTaken,
+        Kind::FailureResponse => Move::NotTaken,
+        Kind::EapSuccess => Move::Succeed,
+        Kind::EapFailure => Move::End,
     }
 }
 
@@ -153,17 +149,9 @@ fn is_waiting(stage: Stage) -> bool
 fn is_request(kind: Kind) -> bool
     ensures { λ r. ⌜ r ≡ isRequest kind ⌝ }
 {
-    match kind {
-        Kind::Challenge => true,
-        Kind::Response => false,
-        Kind::SuccessRequest => true,
-        Kind::FailureRequest => true,
-        Kind::RetryRequest => true,
-        Kind::SuccessResponse => false,
-        Kind::FailureResponse => false,
-        Kind::EapSuccess => false,
-        Kind::EapFailure => false,
-    }
+    is_kind(Kind::Challenge, kind)
+        | (is_kind(Kind::SuccessRequest, kind)
+            | (is_kind(Kind::FailureRequest, kind) | is_kind(Kind::RetryRequest, kind)))
 }
 
 // The repeat rule. same: the packet's first L octets equal the last answered request's.
@@ -180,20 +168,16 @@ fn is_repeat(stage: Stage, kind: Kind, same: bool) -> bool
 }
 
 // Number 18. known: the packet's Identifier is the last answered one.
-fn is_misnumbered(m: Move, known: bool) -> bool
-    ensures { λ r. ⌜ r ≡ misnumbered m known ⌝ }
+fn is_misnumbered(stage: Stage, kind: Kind, known: bool) -> bool
+    ensures { λ r. ⌜ r ≡ misnumbered stage kind known ⌝ }
 {
-    match m {
-        Move::NotTaken => false,
-        Move::WrongIdentifier => false,
-        Move::Again => false,
-        Move::Respond => false,
-        Move::Confirm => known,
-        Move::Fail => known,
-        Move::Wait => known,
-        Move::Succeed => !known,
-        Move::End => !known,
+    if !is_sent(stage) {
+        return false;
     }
+    if is_request(kind) {
+        return known;
+    }
+    !known
 }
 
 // The repeat rule, 19, 18, and then the table's move.
@@ -203,11 +187,13 @@ fn turn_of(stage: Stage, kind: Kind, same: bool, known: bool) -> Move
     if is_repeat(stage, kind, same) {
         return Move::Again;
     }
-    let m = move_of(stage, kind);
-    if is_misnumbered(m, known) {
+    if !takes(stage, kind) {
+        return Move::NotTaken;
+    }
+    if is_misnumbered(stage, kind, known) {
         return Move::WrongIdentifier;
     }
-    m
+    move_of(kind)
 }
 
 // The turn that a packet brings after the last answered request.
@@ -229,7 +215,7 @@ fn first(s: &[u8], n: u16) -> &[u8]
 
 // A name of n octets in its array.
 fn named(name: &[u8], n: u16) -> &[u8]
-    requires { ⌜ length (now name) ≤ 256 ⌝ }
+    requires { ⌜ length (now name) ≤ maxName ⌝ }
     ensures { λ r. ⌜ Named (now (name .entry)) n (now r) ⌝ }
 {
     first(name, n)
@@ -237,7 +223,7 @@ fn named(name: &[u8], n: u16) -> &[u8]
 
 // The user of a name.
 fn user_in(name: &[u8]) -> &[u8]
-    requires { ⌜ length (now name) ≤ 256 ⌝ }
+    requires { ⌜ length (now name) ≤ maxName ⌝ }
     ensures { λ r. ⌜ UserIn (now (name .entry)) (now r) ⌝ }
 {
     let user = mschap::user_of(name);
@@ -253,7 +239,7 @@ struct Keys {
 }
 
 fn nt_response(keys: Keys, user: &[u8]) -> [u8; 24]
-    requires { ⌜ length (now user) ≤ 256 ⌝ }
+    requires { ⌜ length (now user) ≤ maxName ⌝ }
     ensures { λ r. ⌜ r ≡ ntResponse (keys .authenticator) (keys .own) (now (user .entry)) (keys .hash) ⌝ }
 {
     let authenticator = keys.authenticator;
@@ -265,7 +251,7 @@ fn nt_response(keys: Keys, user: &[u8]) -> [u8; 24]
 
 // The string that answers the Response, as 40 digits.
 fn digits_to(keys: Keys, name: &[u8]) -> [u8; 40]
-    requires { ⌜ length (now name) ≤ 256 ⌝ }
+    requires { ⌜ length (now name) ≤ maxName ⌝ }
     ensures { λ r. ⌜ r ≡ digitsTo (keys .authenticator) (keys .own) (now (name .entry)) (keys .hash) ⌝ }
 {
     let authenticator = keys.authenticator;
@@ -280,7 +266,7 @@ fn digits_to(keys: Keys, name: &[u8]) -> [u8; 40]
 
 // Whether these digits are that string. All 40 are compared.
 fn is_right(keys: Keys, name: &[u8], digits: &[u8]) -> bool
-    requires { ⌜ length (now name) ≤ 256 ⌝ }
+    requires { ⌜ length (now name) ≤ maxName ⌝ }
     ensures { λ r. ⌜ r ≡ same (now (digits .entry)) (digitsTo (keys .authenticator) (keys .own) (now (name .entry)) (keys .hash)) ⌝ }
 {
     let right = digits_to(keys, name);
@@ -290,7 +276,7 @@ fn is_right(keys: Keys, name: &[u8], digits: &[u8]) -> bool
 // ---- what a move answers, and the reply that it writes
 // An answer without a reply.
 fn say(answer: Answer, reply: &mut [u8]) -> Written
-    ensures { λ r. ⌜ Does (saying (numberOf answer)) (numberOf (r .answer)) (r .n) tt (now (reply .entry)) (now (reply .exit)) ⌝ }
+    ensures { λ r. ⌜ Does (says (numberOf answer)) (numberOf (r .answer)) (r .n) tt (now (reply .entry)) (now (reply .exit)) ⌝ }
 {
     Written { answer, n: 0 }
 }
@@ -303,7 +289,7 @@ fn send_response(
     name: &[u8],
     reply: &mut [u8],
 ) -> Written
-    requires { ⌜ length (now name) ≤ 256 ⌝ }
+    requires { ⌜ length (now name) ≤ maxName ⌝ }
     ensures { λ r. ⌜ Does (sends (length (now (reply .entry))) (responseTo (id .0) (chapid .0) (keys .authenticator) (keys .own) (now (name .entry)) (keys .hash))) (numberOf (r .answer)) (r .n) tt (now (reply .entry)) (now (reply .exit)) ⌝ }
 {
     let own = keys.own;
@@ -320,7 +306,7 @@ fn respond(
     hash: [u8; 16],
     reply: &mut [u8],
 ) -> Written
-    requires { ⌜ length (now name) ≤ 256 ⌝ }
+    requires { ⌜ length (now name) ≤ maxName ⌝ }
     ensures { λ r. ⌜ Does (sends (length (now (reply .entry))) (responseTo (k .id .0) (k .chapid .0) (challengeIn k (now (q .entry))) random (now (name .entry)) hash)) (numberOf (r .answer)) (r .n) tt (now (reply .entry)) (now (reply .exit)) ⌝ }
 {
     let at = k.challenge.start;
@@ -335,8 +321,8 @@ fn respond(
 
 // The Success Response to the right string. Another ends the login.
 fn confirm(k: Packet, q: &[u8], keys: Keys, name: &[u8], reply: &mut [u8]) -> Written
-    requires { ⌜ length (now name) ≤ 256 ⌝ }
-    ensures { λ r. ⌜ Does (confirming k (now (q .entry)) keys (now (name .entry)) (length (now (reply .entry)))) (numberOf (r .answer)) (r .n) tt (now (reply .entry)) (now (reply .exit)) ⌝ }
+    requires { ⌜ length (now name) ≤ maxName ⌝ }
+    ensures { λ r. ⌜ Does (fitting (length (now (reply .entry))) tt (confirmation k (now (q .entry)) keys (now (name .entry)))) (numberOf (r .answer)) (r .n) tt (now (reply .entry)) (now (reply .exit)) ⌝ }
 {
     let at = k.response.start;
     if is_right(keys, name, octets::part(q, at, 40)) {
@@ -356,8 +342,8 @@ fn answer_to<'a>(
     last: &'a [u8],
     reply: &mut [u8],
 ) -> Written
-    requires { ⌜ length (now name) ≤ 256 ⌝ }
-    ensures { λ r. ⌜ Does (answerOf m k (now (q .entry)) random keys (now (name .entry)) (now (last .entry)) (length (now (reply .entry)))) (numberOf (r .answer)) (r .n) tt (now (reply .entry)) (now (reply .exit)) ⌝ }
+    requires { ⌜ length (now name) ≤ maxName ⌝ }
+    ensures { λ r. ⌜ Does (fitting (length (now (reply .entry))) tt (answerOf m k (now (q .entry)) random keys (now (name .entry)) (now (last .entry)))) (numberOf (r .answer)) (r .n) tt (now (reply .entry)) (now (reply .exit)) ⌝ }
 {
     let hash = keys.hash;
     match m {
@@ -373,28 +359,40 @@ fn answer_to<'a>(
     }
 }
 
+// ---- groups of the state
+fn credentials_of(name: &[u8], hash: [u8; 16]) -> Credentials
+    requires { ⌜ length (now name) ≤ maxName ⌝ }
+    ensures { λ r. ⌜ r ≡ credentialsOf (now (name .entry)) hash ⌝ }
+{
+    let mut room = [0u8; Peer::MAX_NAME];
+    octets::fill(&mut room, name);
+    Credentials {
+        name: room,
+        namelen: name.len() as u16,
+        hash,
+    }
+}
+
 impl Peer {
-    pub const MAX_PACKET: usize = 1020;
+    pub const MAX_PACKET: usize = answer::MAX_PACKET;
 
-    pub const MAX_NAME: usize = 256;
+    pub const MAX_NAME: usize = answer::MAX_NAME;
 
-    pub const REPLY_ROOM: usize = 315;
+    pub const REPLY_ROOM: usize = packet::RESPONSE_NAME_AT + Peer::MAX_NAME;
 
     // ---- states
-    fn fresh(stage: Stage, name: &[u8], hash: [u8; 16]) -> Peer
-        requires { ⌜ length (now name) ≤ 256 ⌝ }
-        ensures { λ r. ⌜ r ≡ fresh stage (now (name .entry)) hash ⌝ }
+    fn initial(stage: Stage, name: &[u8], hash: [u8; 16]) -> Peer
+        requires { ⌜ length (now name) ≤ maxName ⌝ }
+        ensures { λ r. ⌜ r ≡ initial stage (now (name .entry)) hash ⌝ }
     {
-        let mut room = [0u8; Peer::MAX_NAME];
-        octets::fill(&mut room, name);
         Peer {
             stage,
-            name: room,
-            namelen: name.len() as u16,
-            hash,
-            authchallenge: [0u8; 16],
-            peerchallenge: [0u8; 16],
-            chapid: ChapId(0),
+            credentials: credentials_of(name, hash),
+            challenges: Challenges {
+                authenticator: [0u8; 16],
+                own: [0u8; 16],
+                chapid: ChapId(0),
+            },
             request: [0u8; Peer::MAX_PACKET],
             requestlen: 0,
             reply: [0u8; Peer::REPLY_ROOM],
@@ -405,21 +403,14 @@ impl Peer {
     fn staged(self, stage: Stage) -> Peer
         ensures { λ r. ⌜ r ≡ staged stage self ⌝ }
     {
-        let name = self.name;
-        let hash = self.hash;
-        let authchallenge = self.authchallenge;
-        let peerchallenge = self.peerchallenge;
-        let chapid = self.chapid;
+        let credentials = self.credentials;
+        let challenges = self.challenges;
         let request = self.request;
         let reply = self.reply;
         Peer {
             stage,
-            name,
-            namelen: self.namelen,
-            hash,
-            authchallenge,
-            peerchallenge,
-            chapid,
+            credentials,
+            challenges,
             request,
             requestlen: self.requestlen,
             reply,
@@ -427,86 +418,69 @@ impl Peer {
         }
     }
 
-    // The Success Response or Failure Response w to q.
-    fn answered(self, stage: Stage, q: &[u8], w: &[u8]) -> Peer
-        requires { ⌜ (length (now q) ≤ 1020) × (length (now w) ≤ 315) ⌝ }
-        ensures { λ r. ⌜ r ≡ answered stage (now (q .entry)) (now (w .entry)) self ⌝ }
+    // The reply w to q, to which the challenges belong.
+    fn answered_by(self, stage: Stage, challenges: Challenges, q: &[u8], w: &[u8]) -> Peer
+        requires { ⌜ (length (now q) ≤ maxPacket) × (length (now w) ≤ replyRoom) ⌝ }
+        ensures { λ r. ⌜ r ≡ atStage stage (self .credentials) challenges (withRequest (now (q .entry)) (withReply (now (w .entry)) self)) ⌝ }
     {
-        let name = self.name;
-        let hash = self.hash;
-        let authchallenge = self.authchallenge;
-        let peerchallenge = self.peerchallenge;
-        let chapid = self.chapid;
+        let credentials = self.credentials;
         let mut request = [0u8; Peer::MAX_PACKET];
         octets::fill(&mut request, q);
         let mut reply = [0u8; Peer::REPLY_ROOM];
         octets::fill(&mut reply, w);
         Peer {
             stage,
-            name,
-            namelen: self.namelen,
-            hash,
-            authchallenge,
-            peerchallenge,
-            chapid,
+            credentials,
+            challenges,
             request,
             requestlen: q.len() as u16,
             reply,
             replylen: w.len() as u16,
         }
+    }
+
+    // The Success Response or Failure Response w to q.
+    fn answered(self, stage: Stage, q: &[u8], w: &[u8]) -> Peer
+        requires { ⌜ (length (now q) ≤ maxPacket) × (length (now w) ≤ replyRoom) ⌝ }
+        ensures { λ r. ⌜ r ≡ answered stage (now (q .entry)) (now (w .entry)) self ⌝ }
+    {
+        self.answered_by(stage, self.challenges, q, w)
     }
 
     // The Response w to the Challenge q.
     fn responded(self, k: Packet, q: &[u8], random: [u8; 16], w: &[u8]) -> Peer
-        requires { ⌜ (length (now q) ≤ 1020) × (length (now w) ≤ 315) ⌝ }
+        requires { ⌜ (length (now q) ≤ maxPacket) × (length (now w) ≤ replyRoom) ⌝ }
         ensures { λ r. ⌜ r ≡ responded (challengeIn k (now (q .entry))) random (k .chapid) (now (q .entry)) (now (w .entry)) self ⌝ }
     {
-        let name = self.name;
-        let hash = self.hash;
-        let at = k.challenge.start;
-        let authchallenge = packet::sixteen_at(q, at);
         let chapid = k.chapid;
-        let mut request = [0u8; Peer::MAX_PACKET];
-        octets::fill(&mut request, q);
-        let mut reply = [0u8; Peer::REPLY_ROOM];
-        octets::fill(&mut reply, w);
-        Peer {
-            stage: Stage::ChallengeResponseSent,
-            name,
-            namelen: self.namelen,
-            hash,
-            authchallenge,
-            peerchallenge: random,
+        let challenges = Challenges {
+            authenticator: packet::sixteen_at(q, k.challenge.start),
+            own: random,
             chapid,
-            request,
-            requestlen: q.len() as u16,
-            reply,
-            replylen: w.len() as u16,
-        }
+        };
+        self.answered_by(Stage::ChallengeResponseSent, challenges, q, w)
     }
 
-    // The Failure Request q, R=1, kept.
-    fn kept(self, k: Packet, q: &[u8]) -> Peer
-        requires { ⌜ length (now q) ≤ 1020 ⌝ }
-        ensures { λ r. ⌜ r ≡ kept (renewedIn k (now (q .entry))) (k .chapid) (now (q .entry)) self ⌝ }
+    // WAITING, keeping the Failure Request q, R=1, and its C.
+    fn awaiting(self, k: Packet, q: &[u8]) -> Peer
+        requires { ⌜ length (now q) ≤ maxPacket ⌝ }
+        ensures { λ r. ⌜ r ≡ awaiting (renewedIn k (now (q .entry))) (k .chapid) (now (q .entry)) self ⌝ }
     {
-        let name = self.name;
-        let hash = self.hash;
-        let at = k.challenge.start;
-        let authchallenge = packet::unhex_at(q, at);
-        let peerchallenge = self.peerchallenge;
+        let credentials = self.credentials;
+        let own = self.challenges.own;
         let chapid = k.chapid;
+        let challenges = Challenges {
+            authenticator: packet::unhex_at(q, k.challenge.start),
+            own,
+            chapid,
+        };
         let mut request = [0u8; Peer::MAX_PACKET];
         octets::fill(&mut request, q);
         let reply = self.reply;
         Peer {
             stage: Stage::Waiting,
-            name,
-            namelen: self.namelen,
-            hash,
-            authchallenge,
-            peerchallenge,
-            chapid,
+            credentials,
+            challenges,
             request,
             requestlen: q.len() as u16,
             reply,
@@ -516,24 +490,23 @@ impl Peer {
 
     // New credentials, and the Response w.
     fn supplied(self, name: &[u8], hash: [u8; 16], random: [u8; 16], w: &[u8]) -> Peer
-        requires { ⌜ (length (now name) ≤ 256) × (length (now w) ≤ 315) ⌝ }
+        requires { ⌜ (length (now name) ≤ maxName) × (length (now w) ≤ replyRoom) ⌝ }
         ensures { λ r. ⌜ r ≡ supplied (now (name .entry)) hash random (now (w .entry)) self ⌝ }
     {
-        let mut room = [0u8; Peer::MAX_NAME];
-        octets::fill(&mut room, name);
-        let authchallenge = self.authchallenge;
-        let chapid = self.chapid;
+        let authenticator = self.challenges.authenticator;
+        let chapid = self.challenges.chapid;
+        let challenges = Challenges {
+            authenticator,
+            own: random,
+            chapid,
+        };
         let request = self.request;
         let mut reply = [0u8; Peer::REPLY_ROOM];
         octets::fill(&mut reply, w);
         Peer {
             stage: Stage::ChallengeResponseSent,
-            name: room,
-            namelen: name.len() as u16,
-            hash,
-            authchallenge,
-            peerchallenge: random,
-            chapid,
+            credentials: credentials_of(name, hash),
+            challenges,
             request,
             requestlen: self.requestlen,
             reply,
@@ -553,9 +526,9 @@ impl Peer {
 
     // ---- a packet
     // The state after the reply w. A repeat changes nothing; no more than four moves write a reply.
-    fn replied(self, m: Move, k: Packet, q: &[u8], random: [u8; 16], w: &[u8]) -> Peer
-        requires { ⌜ (length (now q) ≤ 1020) × (length (now w) ≤ 315) ⌝ }
-        ensures { λ r. ⌜ r ≡ repliedBy m k (now (q .entry)) random (now (w .entry)) self ⌝ }
+    fn next(self, m: Move, k: Packet, q: &[u8], random: [u8; 16], w: &[u8]) -> Peer
+        requires { ⌜ (length (now q) ≤ maxPacket) × (length (now w) ≤ replyRoom) ⌝ }
+        ensures { λ r. ⌜ r ≡ nextOf m k (now (q .entry)) random (now (w .entry)) self ⌝ }
     {
         match m {
             Move::NotTaken => self,
@@ -572,12 +545,12 @@ impl Peer {
 
     // The state after an answer.
     fn after(self, answer: Answer, m: Move, k: Packet, q: &[u8], random: [u8; 16], w: &[u8]) -> Peer
-        requires { ⌜ (length (now q) ≤ 1020) × (length (now w) ≤ 315) ⌝ }
-        ensures { λ r. ⌜ r ≡ leftBy answer m k (now (q .entry)) random (now (w .entry)) self ⌝ }
+        requires { ⌜ (length (now q) ≤ maxPacket) × (length (now w) ≤ replyRoom) ⌝ }
+        ensures { λ r. ⌜ r ≡ leftBy (numberOf answer) m k (now (q .entry)) random (now (w .entry)) self ⌝ }
     {
         match answer {
-            Answer::Written => self.replied(m, k, q, random, w),
-            Answer::NeedsCredentials => self.kept(k, q),
+            Answer::Written => self.next(m, k, q, random, w),
+            Answer::NeedsCredentials => self.awaiting(k, q),
             Answer::Authenticated => self.staged(Stage::Success),
             Answer::Ended => self.staged(Stage::Failed),
             Answer::Refused(why) => self,
@@ -587,13 +560,13 @@ impl Peer {
     // The turn, its answer, and the state after it. The fields are lent here alone, and the state is made when all is
     // written: so it is copied once in and once out.
     fn taken(self, k: Packet, q: &[u8], random: [u8; 16], reply: &mut [u8]) -> PeerStep
-        requires { ⌜ length (now q) ≤ 1020 ⌝ }
+        requires { ⌜ length (now q) ≤ maxPacket ⌝ }
         ensures { λ r. ⌜ Does (takenOf self k (now (q .entry)) random (length (now (reply .entry)))) (numberOf (r .answer)) (r .n) (r .peer) (now (reply .entry)) (now (reply .exit)) ⌝ }
     {
         let stage = self.stage;
-        let authenticator = self.authchallenge;
-        let own = self.peerchallenge;
-        let hash = self.hash;
+        let authenticator = self.challenges.authenticator;
+        let own = self.challenges.own;
+        let hash = self.credentials.hash;
         let keys = Keys {
             authenticator,
             own,
@@ -601,7 +574,7 @@ impl Peer {
         };
         let m = turn_in(stage, k, q, first(&self.request, self.requestlen));
         let last = first(&self.reply, self.replylen);
-        let name = named(&self.name, self.namelen);
+        let name = named(&self.credentials.name, self.credentials.namelen);
         let w = answer_to(m, k, q, random, keys, name, last, reply);
         let answer = w.answer;
         PeerStep {
@@ -612,7 +585,7 @@ impl Peer {
     }
 
     fn take_packet(self, k: Packet, s: &[u8], random: [u8; 16], reply: &mut [u8]) -> PeerStep
-        requires { ⌜ k .length ≤ 1020 ⌝ }
+        requires { ⌜ k .length ≤ maxPacket ⌝ }
         ensures { λ r. ⌜ Does (takenOf self k (take (k .length) (now (s .entry))) random (length (now (reply .entry)))) (numberOf (r .answer)) (r .n) (r .peer) (now (reply .entry)) (now (reply .exit)) ⌝ }
     {
         let q = octets::part(s, 0, k.length);
@@ -620,7 +593,7 @@ impl Peer {
     }
 
     fn take_reading(self, x: Reading, s: &[u8], random: [u8; 16], reply: &mut [u8]) -> PeerStep
-        requires { ⌜ toldReading x .value .length ≤ 1020 ⌝ }
+        requires { ⌜ toldReading x .value .length ≤ maxPacket ⌝ }
         ensures { λ r. ⌜ Does (readOf (toldReading x) self (now (s .entry)) random (length (now (reply .entry)))) (numberOf (r .answer)) (r .n) (r .peer) (now (reply .entry)) (now (reply .exit)) ⌝ }
     {
         match x {
@@ -646,8 +619,8 @@ impl Peer {
         random: [u8; 16],
         w: &[u8],
     ) -> Peer
-        requires { ⌜ (length (now name) ≤ 256) × (length (now w) ≤ 315) ⌝ }
-        ensures { λ r. ⌜ r ≡ resumedBy answer (now (name .entry)) hash random (now (w .entry)) self ⌝ }
+        requires { ⌜ (length (now name) ≤ maxName) × (length (now w) ≤ replyRoom) ⌝ }
+        ensures { λ r. ⌜ r ≡ pick (eqb (numberOf answer) 0) (supplied (now (name .entry)) hash random (now (w .entry)) self) self ⌝ }
     {
         match answer {
             Answer::Written => self.supplied(name, hash, random, w),
@@ -659,11 +632,11 @@ impl Peer {
     }
 
     fn resume(self, name: &[u8], hash: [u8; 16], random: [u8; 16], reply: &mut [u8]) -> PeerStep
-        requires { ⌜ length (now name) ≤ 256 ⌝ }
+        requires { ⌜ length (now name) ≤ maxName ⌝ }
         ensures { λ r. ⌜ Does (resumeOf self (now (name .entry)) hash random (length (now (reply .entry)))) (numberOf (r .answer)) (r .n) (r .peer) (now (reply .entry)) (now (reply .exit)) ⌝ }
     {
-        let chapid = self.chapid;
-        let authenticator = self.authchallenge;
+        let chapid = self.challenges.chapid;
+        let authenticator = self.challenges.authenticator;
         let keys = Keys {
             authenticator,
             own: random,
@@ -719,13 +692,13 @@ impl Peer {
             return PeerStep {
                 answer: Answer::Refused(Refusal::BadArgument),
                 n: 0,
-                peer: Peer::fresh(Stage::Failed, &[], [0u8; 16]),
+                peer: Peer::initial(Stage::Failed, &[], [0u8; 16]),
             };
         }
         PeerStep {
             answer: Answer::Written,
             n: 0,
-            peer: Peer::fresh(Stage::Begin, name, hash),
+            peer: Peer::initial(Stage::Begin, name, hash),
         }
     }
 }

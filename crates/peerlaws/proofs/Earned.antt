@@ -5,9 +5,10 @@ use mathlib.Core.List.{List, [], _∷_, _++_}
 use mathlib.Core.Bool.{true}
 use mathlib.Core.Logic.{_⊎_, inl, inr}
 use native.Mathlib.Omega.{arith}
-use lib.ListN.{length, take}
+use lib.ListN.{take}
 use Rattle.octets.proofs.Exits.{arms, clash}
 use Rattle.answer.specs.Outcome.{gives, Outcome}
+use Rattle.answer.specs.Runs as runs
 use Rattle.packet.specs.declared.End.the-variants as end
 use Rattle.packet.specs.declared.Packet.{Packet}
 use Rattle.packet.specs.Reader.{readPacket}
@@ -15,15 +16,15 @@ use Rattle.packet.specs.Forms.{successResponse}
 use Rattle.peer.specs.declared.Stage.{Stage}
 use Rattle.peer.specs.declared.Stage.the-variants.{Begin, ChallengeResponseSent, SuccessResponseSent, FailureResponseSent, Waiting, Success, Failed}
 use Rattle.peer.specs.declared.Peer.{Peer}
-use Rattle.peer.specs.State.{lastReply, responseTo, outstanding, fresh, staged, answered, responded, kept, supplied as suppliedState}
+use Rattle.peer.specs.State.{lastReply, responseTo, outstanding, initial, staged, answered, responded, awaiting, supplied as suppliedState}
 use Rattle.peer.specs.Moves.{sent}
-use Rattle.peer.specs.Calls.{newOf, respondedTo, suppliedBy}
+use Rattle.peer.specs.Calls.{newOf}
 use Rattle.peerlaws.specs.Runs.{Call, step, supply, giveUp, callOf, after}
-use Rattle.peerlaws.specs.Promises.{Confirms, ConfirmsBy, SomeConfirms, SuccessEarned}
+use Rattle.peerlaws.specs.Promises.{Confirms, ByStep, SomeConfirms, SuccessEarned}
 use Rattle.peerlaws.proofs.Promises.{response-op, other, moved-confirms, supply-confirms, give-up-confirms}
 use Rattle.peerlaws.proofs.Views.{Moved, responds, accepts, fails, waits, succeeds, ends, Stepped, stepped, Supplied, supplied, GaveUp, gave-up}
 use Rattle.peerlaws.proofs.Views as view
-use Rattle.peerlaws.proofs.Standing.{Keeps, Holds, reached}
+use Rattle.peerlaws.proofs.Consistent.{Keeps, Invariant, reached}
 
 -- whether a stage is SUCCESS_RESPONSE_SENT, as a number
 abbrev told : Stage → ℕ
@@ -40,7 +41,7 @@ apart stage z e = let y : _≡_ {A = ℕ} 0 1 = sym z ∙ ap told e in absurd (o
 
 -- ---- the stage is entered by the right string alone
 moved-enters : {p : Peer} {s random : List ℕ} {room : ℕ} {o : Outcome Peer} (k : Packet) → readPacket end.Peer s ≡ gives k → Moved p k (take (k .length) s) random room o → o .state .stage ≡ SuccessResponseSent → Confirms p s
-unfolding respondedTo responded answered kept staged
+unfolding responded answered awaiting staged
 moved-enters k e (responds f g h) z = apart ChallengeResponseSent refl z
 moved-enters k e (accepts f g r h) z = record { stage = f; packet = k; reads = e; success = g; right = r }
 moved-enters k e (fails f g h) z = apart FailureResponseSent refl z
@@ -54,7 +55,7 @@ step-enters (view.repeats-it r h) z = inl z
 step-enters (view.moves k e m) z = inr (moved-enters k e m z)
 
 supply-enters : {p : Peer} {name hash random : List ℕ} {room : ℕ} {o : Outcome Peer} → Supplied p name hash random room o → o .state .stage ≡ SuccessResponseSent → p .stage ≡ SuccessResponseSent
-unfolding suppliedBy suppliedState
+unfolding suppliedState
 supply-enters (view.refuses n h l) z = z
 supply-enters (view.supplies w f h) z = apart ChallengeResponseSent refl z
 
@@ -63,7 +64,7 @@ unfolding staged
 give-up-enters (view.refuses n h l) z = z
 give-up-enters (view.ends w) z = apart Failed refl z
 
-enters : (p : Peer) (c : Call) → callOf p c .state .stage ≡ SuccessResponseSent → (p .stage ≡ SuccessResponseSent) ⊎ ConfirmsBy p c
+enters : (p : Peer) (c : Call) → callOf p c .state .stage ≡ SuccessResponseSent → (p .stage ≡ SuccessResponseSent) ⊎ ByStep Confirms p c
 unfolding callOf
 enters p (step s random room) z = step-enters (stepped p s random room) z
 enters p (supply name hash random room) z = inl (supply-enters (supplied p name hash random room) z)
@@ -71,15 +72,15 @@ enters p giveUp z = inl (give-up-enters (gave-up p) z)
 
 -- ---- lists of calls
 entered : (p : Peer) (cs : List Call) → after p cs .stage ≡ SuccessResponseSent → (p .stage ≡ SuccessResponseSent) ⊎ SomeConfirms p cs
-unfolding after
+unfolding runs.after
 entered p [] z = inl z
 entered p (c ∷ cs) z = by (entered (callOf p c .state) cs z)
   where
-    now : (p .stage ≡ SuccessResponseSent) ⊎ ConfirmsBy p c → (p .stage ≡ SuccessResponseSent) ⊎ (ConfirmsBy p c ⊎ SomeConfirms (callOf p c .state) cs)
+    now : (p .stage ≡ SuccessResponseSent) ⊎ ByStep Confirms p c → (p .stage ≡ SuccessResponseSent) ⊎ (ByStep Confirms p c ⊎ SomeConfirms (callOf p c .state) cs)
     now (inl f) = inl f
     now (inr f) = inr (inl f)
 
-    by : (callOf p c .state .stage ≡ SuccessResponseSent) ⊎ SomeConfirms (callOf p c .state) cs → (p .stage ≡ SuccessResponseSent) ⊎ (ConfirmsBy p c ⊎ SomeConfirms (callOf p c .state) cs)
+    by : (callOf p c .state .stage ≡ SuccessResponseSent) ⊎ SomeConfirms (callOf p c .state) cs → (p .stage ≡ SuccessResponseSent) ⊎ (ByStep Confirms p c ⊎ SomeConfirms (callOf p c .state) cs)
     by (inl f) = now (enters p c f)
     by (inr f) = inr (inr f)
 
@@ -88,15 +89,15 @@ before p [] ds f = absurd f
 before p (c ∷ cs) ds (inl f) = inl f
 before p (c ∷ cs) ds (inr f) = inr (before (callOf p c .state) cs ds f)
 
-at-last : (p : Peer) (cs : List Call) (c : Call) → ConfirmsBy (after p cs) c → SomeConfirms p (cs ++ (c ∷ []))
-unfolding after
+at-last : (p : Peer) (cs : List Call) (c : Call) → ByStep Confirms (after p cs) c → SomeConfirms p (cs ++ (c ∷ []))
+unfolding runs.after
 at-last p [] c f = inl f
 at-last p (d ∷ cs) c f = inr (at-last (callOf p d .state) cs c f)
 
 -- a made peer is in BEGIN or FAILED
-fresh-apart : (name hash : List ℕ) → told (newOf name hash .state .stage) ≡ 0
-unfolding newOf fresh
-fresh-apart name hash = arms (λ (o : Outcome Peer). told (o .state .stage) ≡ 0) _ refl refl
+initial-apart : (name hash : List ℕ) → told (newOf name hash .state .stage) ≡ 0
+unfolding newOf initial
+initial-apart name hash = arms (λ (o : Outcome Peer). told (o .state .stage) ≡ 0) _ refl refl
 
 -- ---- a call that sends a Success Response or answers 2
 -- a stored Success Response
@@ -119,7 +120,7 @@ moved-sends k e (waits f g) (inr z) = absurd (omega arith)
 moved-sends k e (succeeds f) (inr z) = inl f
 moved-sends k e ends (inr z) = absurd (omega arith)
 
-step-sends : {p : Peer} {s random : List ℕ} {room id : ℕ} {o : Outcome Peer} → Holds p → Stepped p s random room o → (o .octets ≡ successResponse id) ⊎ (o .number ≡ 2) → (p .stage ≡ SuccessResponseSent) ⊎ Confirms p s
+step-sends : {p : Peer} {s random : List ℕ} {room id : ℕ} {o : Outcome Peer} → Invariant p → Stepped p s random room o → (o .octets ≡ successResponse id) ⊎ (o .number ≡ 2) → (p .stage ≡ SuccessResponseSent) ⊎ Confirms p s
 step-sends a (view.refuses n h l) (inl z) = other [] _ 0 refl (λ n. absurd (omega arith)) z
 step-sends a (view.refuses n h l) (inr z) = absurd (omega arith)
 step-sends {p} a (view.repeats-it r h) (inl z) = inl (kept-success (p .stage) p _ (r .stage) (a .keeps) z)
@@ -136,7 +137,7 @@ give-up-sends v (inl z) = give-up-confirms v z
 give-up-sends (view.refuses n h l) (inr z) = absurd (omega arith)
 give-up-sends (view.ends w) (inr z) = absurd (omega arith)
 
-sends : (p : Peer) (c : Call) (id : ℕ) → Holds p → (callOf p c .octets ≡ successResponse id) ⊎ (callOf p c .number ≡ 2) → (p .stage ≡ SuccessResponseSent) ⊎ ConfirmsBy p c
+sends : (p : Peer) (c : Call) (id : ℕ) → Invariant p → (callOf p c .octets ≡ successResponse id) ⊎ (callOf p c .number ≡ 2) → (p .stage ≡ SuccessResponseSent) ⊎ ByStep Confirms p c
 unfolding callOf
 sends p (step s random room) id h z = step-sends h (stepped p s random room) z
 sends p (supply name hash random room) id h z = supply-sends (supplied p name hash random room) z
@@ -146,9 +147,9 @@ pub success-earned : SuccessEarned
 success-earned name hash cs c p id l a e z = go (sends (after p cs) c id (rw e (reached _ (record { name = name; hash = hash; calls = cs; sixteen = l; are = a; is = refl }))) z)
   where
     come : (p .stage ≡ SuccessResponseSent) ⊎ SomeConfirms p cs → SomeConfirms p (cs ++ (c ∷ []))
-    come (inl f) = apart (p .stage) (rw e (fresh-apart name hash)) f
+    come (inl f) = apart (p .stage) (rw e (initial-apart name hash)) f
     come (inr f) = before p cs (c ∷ []) f
 
-    go : (after p cs .stage ≡ SuccessResponseSent) ⊎ ConfirmsBy (after p cs) c → SomeConfirms p (cs ++ (c ∷ []))
+    go : (after p cs .stage ≡ SuccessResponseSent) ⊎ ByStep Confirms (after p cs) c → SomeConfirms p (cs ++ (c ∷ []))
     go (inl f) = come (entered p cs f)
     go (inr f) = at-last p cs c f

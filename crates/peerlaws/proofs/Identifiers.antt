@@ -2,33 +2,35 @@
 use Prim.Native.Nat.{ℕ, _≤_}
 use mathlib.Core.Path.{_≡_, refl, sym, ap, _∙_}
 use mathlib.Core.List.{List, [], _∷_}
-use mathlib.Core.Bool.{Bool, true, false}
+use mathlib.Core.Bool.{Bool, true, false, not}
 use native.Mathlib.Omega.{arith}
 use lib.ListN.{length, take, set}
 use lib.Dec.{ltb, eqb}
 use Rattle.octets.specs.Choice.{pick}
 use Rattle.octets.specs.Lists.{part, cells, sized}
 use Rattle.octets.specs.Octets.{same, unhexAt}
-use Rattle.octets.proofs.Exits.{pick-false, clash}
-use Rattle.answer.specs.Outcome.{Told, outcome, refused, fitting}
+use Rattle.octets.proofs.Exits.{pick-false, arms, clash}
+use Rattle.answer.specs.Outcome.{Told, Outcome, outcome, refused, fitting}
+use Rattle.answer.specs.Sizes.{maxPacket}
 use Rattle.packet.specs.declared.End.the-variants as end
 use Rattle.packet.specs.declared.Kind.{Kind}
 use Rattle.packet.specs.declared.Kind.the-variants.{Challenge, Response, SuccessRequest, FailureRequest, RetryRequest, SuccessResponse, FailureResponse, EapSuccess, EapFailure}
 use Rattle.packet.specs.declared.Packet.{Packet}
-use Rattle.packet.specs.Reader.{refusal, readPacket}
+use Rattle.packet.specs.Reader.{refusal, readPacket, challengeIn}
 use Rattle.packet.specs.Forms.{header, chapPacket, responsePacket, successResponse, failureResponse}
 use Rattle.packet.proofs.Readings.{Shape, tells}
+use Rattle.packet.proofs.Renumbered.{under, Renumbered, none, some, read-renumbered}
 use Rattle.peer.specs.declared.Stage.{Stage}
-use Rattle.peer.specs.declared.Stage.the-variants.{Begin, ChallengeResponseSent, SuccessResponseSent, FailureResponseSent, Waiting, Success, Failed}
+use Rattle.peer.specs.declared.Stage.the-variants.{ChallengeResponseSent, SuccessResponseSent, FailureResponseSent, Waiting}
 use Rattle.peer.specs.declared.Peer.{Peer}
-use Rattle.peer.specs.State.{responseTo, rightDigits, answered, responded, kept}
-use Rattle.peer.specs.Moves.{repeats, turnOf}
-use Rattle.peer.specs.Calls.{challengeIn, renewedIn, digitsIn, responseIn, respondedTo, respondOf, sendBare, acceptOf, concludeOf, confirmOf, failOf, waitOf, movedOf, readOf, stepOf}
+use Rattle.peer.specs.State.{replyRoom, responseTo, rightDigits, answered, responded, awaiting}
+use Rattle.peer.specs.Moves.{takes, moveOf, repeats, misnumbered, turnOf}
+use Rattle.peer.specs.Calls.{renewedIn, digitsIn, says, writes, confirmation, answerOf, nextOf, leftBy, leaving, movedOf, readOf, stepOf}
 use Rattle.peerlaws.specs.Promises.{unnumberedState, unnumbered, EqualityOnly}
-use Rattle.peerlaws.proofs.Taken.{newly}
-use Rattle.peerlaws.proofs.Twins.{Twin, twin, twin-take, twin-sized, twin-set, drops, parts, under, Alike, none, some, read-alike}
+use Rattle.peerlaws.proofs.Forward.{responseIn, newly}
+use Rattle.peerlaws.proofs.Twins.{Twin, twin, twin-take, twin-sized, twin-set, drops, parts}
 
--- where the logger looks into a packet, it looks past its Identifier: its places start there
+-- where the peer looks into a packet, it looks past its Identifier: its places start there
 abbrev Past : Kind → ℕ → ℕ → Type 0
 Past Challenge challenge response = 2 ≤ challenge
 Past Response challenge response = Unit {0}
@@ -52,132 +54,88 @@ past EapSuccess q k s = tt
 past EapFailure q k s = tt
 
 -- ---- the moves. The packet is q under i and q′ under j
-module _ (p : Peer) (k : Packet) (i j : ℕ) (q q′ : List ℕ) (t : Twin q q′) where
-  -- a reply, where it fits
-  sends : (n n′ : Peer) (w w′ : List ℕ) (room : ℕ) → Twin w w′ → unnumberedState n ≡ unnumberedState n′ → unnumbered (fitting room p (outcome 0 w n)) ≡ unnumbered (fitting room p (outcome 0 w′ n′))
+module _ (p : Peer) (k : Packet) (i j : ℕ) (q q′ random : List ℕ) (room : ℕ) (t : Twin q q′) where
+  -- an answer, where it fits
+  sends : (a : ℕ) (n n′ : Peer) (w w′ : List ℕ) → Twin w w′ → unnumberedState n ≡ unnumberedState n′ → unnumbered (fitting room p (outcome a w n)) ≡ unnumbered (fitting room p (outcome a w′ n′))
   unfolding fitting unnumbered pick
-  sends n n′ w w′ room u e = go (ltb room (length w)) (ltb room (length w′)) (ap (λ (l : ℕ). ltb room l) (u .size))
+  sends a n n′ w w′ u e = go (ltb room (length w)) (ltb room (length w′)) (ap (λ (l : ℕ). ltb room l) (u .size))
     where
-      go : (b b′ : Bool) → b ≡ b′ → unnumbered (pick b (refused 20 p) (outcome 0 w n)) ≡ unnumbered (pick b′ (refused 20 p) (outcome 0 w′ n′))
+      go : (b b′ : Bool) → b ≡ b′ → unnumbered (pick b (refused 20 p) (outcome a w n)) ≡ unnumbered (pick b′ (refused 20 p) (outcome a w′ n′))
       go true true f = refl
-      go false false f = (λ x. outcome 0 (twin-set w w′ u x) (e x))
+      go false false f = (λ x. outcome a (twin-set w w′ u x) (e x))
       go true false f = clash refl (sym f)
       go false true f = clash refl f
 
-  bare : (stage : Stage) (w w′ : List ℕ) (room : ℕ) → Twin w w′ → unnumbered (sendBare p stage q w room) ≡ unnumbered (sendBare p stage q′ w′ room)
-  unfolding sendBare answered unnumberedState
-  bare stage w w′ room u =
-      sends (answered stage q w p) (answered stage q′ w′ p) w w′ room u
-      (λ x. record {
-        stage = stage;
-        name = p .name;
-        namelen = p .namelen;
-        hash = p .hash;
-        authchallenge = p .authchallenge;
-        peerchallenge = p .peerchallenge;
-        chapid = p .chapid;
-        request = twin-set (sized 1020 q) (sized 1020 q′) (twin-sized q q′ 1020 t) x;
-        requestlen = t .size x;
-        reply = twin-set (sized 315 w) (sized 315 w′) (twin-sized w w′ 315 u) x;
-        replylen = u .size x;
-      })
+  request : set (sized maxPacket q) 1 0 ≡ set (sized maxPacket q′) 1 0
+  request = twin-set (sized maxPacket q) (sized maxPacket q′) (twin-sized q q′ maxPacket t)
 
-  fails : (room : ℕ) → unnumbered (failOf p (under i k) q room) ≡ unnumbered (failOf p (under j k) q′ room)
-  unfolding failOf
-  fails room = bare FailureResponseSent (failureResponse i) (failureResponse j) room (twin 2 i j _)
+  reply : (w w′ : List ℕ) → Twin w w′ → set (sized replyRoom w) 1 0 ≡ set (sized replyRoom w′) 1 0
+  reply w w′ u = twin-set (sized replyRoom w) (sized replyRoom w′) (twin-sized w w′ replyRoom u)
 
-  concludes : (right : Bool) (room : ℕ) → unnumbered (concludeOf right p (under i k) q room) ≡ unnumbered (concludeOf right p (under j k) q′ room)
-  unfolding concludeOf acceptOf pick
-  concludes true room = bare SuccessResponseSent (successResponse i) (successResponse j) room (twin 2 i j _)
-  concludes false room = refl
+  bare : (stage : Stage) (w w′ : List ℕ) → Twin w w′ → unnumbered (fitting room p (outcome 0 w (answered stage q w p))) ≡ unnumbered (fitting room p (outcome 0 w′ (answered stage q′ w′ p)))
+  unfolding answered unnumberedState
+  bare stage w w′ u =
+      sends 0 (answered stage q w p) (answered stage q′ w′ p) w w′ u
+      (λ x. record { stage = stage; credentials = p .credentials; challenges = p .challenges; request = request x; requestlen = t .size x; reply = reply w w′ u x; replylen = u .size x })
 
-  confirms : (room : ℕ) → 2 ≤ k .response .start → unnumbered (confirmOf p (under i k) q room) ≡ unnumbered (confirmOf p (under j k) q′ room)
-  unfolding confirmOf digitsIn
-  confirms room h =
-      ap (λ (l : List ℕ). unnumbered (concludeOf (same l (rightDigits p)) p (under i k) q room)) (parts q q′ t (k .response .start) 40 h)
-      ∙ concludes (same (part q′ (k .response .start) 40) (rightDigits p)) room
-
-  waits : 2 ≤ k .challenge .start → unnumbered (waitOf p (under i k) q) ≡ unnumbered (waitOf p (under j k) q′)
-  unfolding waitOf kept renewedIn unnumbered unnumberedState
-  waits h = (λ x. outcome 1 [] (record {
-    stage = Waiting;
-    name = p .name;
-    namelen = p .namelen;
-    hash = p .hash;
-    authchallenge = cells 16 (unhexAt (parts q q′ t (k .challenge .start) 32 h x));
-    peerchallenge = p .peerchallenge;
-    chapid = k .chapid;
-    request = twin-set (sized 1020 q) (sized 1020 q′) (twin-sized q q′ 1020 t) x;
-    requestlen = t .size x;
-    reply = set (p .reply) 1 0;
-    replylen = p .replylen;
-  }))
-
-  responds : (random : List ℕ) (room : ℕ) → 2 ≤ k .challenge .start → unnumbered (respondOf p (under i k) q random room) ≡ unnumbered (respondOf p (under j k) q′ random room)
-  unfolding respondOf respondedTo responded responseIn challengeIn responseTo responsePacket chapPacket header unnumberedState
-  responds random room h =
-      let c = challengeIn (under i k) q in
-      let c′ = challengeIn (under j k) q′ in
-      let e : c ≡ c′ = ap (sized 16) (drops q q′ t (k .challenge .start) h) in
+  responds : 2 ≤ k .challenge .start → unnumbered (movedOf (moveOf Challenge) p (under i k) q random room) ≡ unnumbered (movedOf (moveOf Challenge) p (under j k) q′ random room)
+  unfolding movedOf answerOf leftBy nextOf pick responded challengeIn responseTo responsePacket chapPacket header unnumberedState
+  responds h =
+      let e : challengeIn (under i k) q ≡ challengeIn (under j k) q′ = ap (sized 16) (drops q q′ t (k .challenge .start) h) in
       let w = responseIn p (under i k) q random in
       let w′ = responseIn p (under j k) q′ random in
       let u : Twin w w′ = rw e (twin 2 i j _) in
-      sends (respondedTo p (under i k) q random) (respondedTo p (under j k) q′ random) w w′ room u
+      sends 0 (responded (challengeIn (under i k) q) random (k .chapid) q w p) (responded (challengeIn (under j k) q′) random (k .chapid) q′ w′ p) w w′ u
+      (λ x. record { stage = ChallengeResponseSent; credentials = p .credentials; challenges = record { authenticator = e x; own = random; chapid = k .chapid }; request = request x; requestlen = t .size x; reply = reply w w′ u x; replylen = u .size x })
+
+  abbrev Confirming : ℕ → List ℕ → Bool → Outcome Peer
+  Confirming i q right = unnumbered (fitting room p (leaving (pick right (writes (successResponse i)) (says 3)) (moveOf SuccessRequest) (under i k) q random p))
+
+  concludes : (right : Bool) → Confirming i q right ≡ Confirming j q′ right
+  unfolding leftBy nextOf pick
+  concludes true = bare SuccessResponseSent (successResponse i) (successResponse j) (twin 2 i j _)
+  concludes false = refl
+
+  confirms : 2 ≤ k .response .start → unnumbered (movedOf (moveOf SuccessRequest) p (under i k) q random room) ≡ unnumbered (movedOf (moveOf SuccessRequest) p (under j k) q′ random room)
+  unfolding movedOf answerOf confirmation digitsIn rightDigits
+  confirms h =
+      ap (λ (l : List ℕ). Confirming i q (same l (rightDigits p))) (parts q q′ t (k .response .start) 40 h)
+      ∙ concludes (same (part q′ (k .response .start) 40) (rightDigits p))
+
+  waits : 2 ≤ k .challenge .start → unnumbered (movedOf (moveOf RetryRequest) p (under i k) q random room) ≡ unnumbered (movedOf (moveOf RetryRequest) p (under j k) q′ random room)
+  unfolding movedOf answerOf leftBy pick awaiting renewedIn unnumberedState
+  waits h =
+      sends 1 (awaiting (renewedIn k q) (k .chapid) q p) (awaiting (renewedIn k q′) (k .chapid) q′ p) [] [] (record { size = refl; octet = λ x n. refl })
       (λ x. record {
-        stage = ChallengeResponseSent;
-        name = p .name;
-        namelen = p .namelen;
-        hash = p .hash;
-        authchallenge = e x;
-        peerchallenge = random;
-        chapid = k .chapid;
-        request = twin-set (sized 1020 q) (sized 1020 q′) (twin-sized q q′ 1020 t) x;
+        stage = Waiting;
+        credentials = p .credentials;
+        challenges = record { authenticator = cells 16 (unhexAt (parts q q′ t (k .challenge .start) 32 h x)); own = p .challenges .own; chapid = k .chapid };
+        request = request x;
         requestlen = t .size x;
-        reply = twin-set (sized 315 w) (sized 315 w′) (twin-sized w w′ 315 u) x;
-        replylen = u .size x;
+        reply = set (p .reply) 1 0;
+        replylen = p .replylen;
       })
 
-  moves : (stage : Stage) (kind : Kind) (random : List ℕ) (room : ℕ) → Past kind (k .challenge .start) (k .response .start) → unnumbered (movedOf (turnOf stage kind false false) p (under i k) q random room) ≡ unnumbered (movedOf (turnOf stage kind false false) p (under j k) q′ random room)
-  unfolding movedOf turnOf repeats pick
-  moves Begin Challenge random room h = responds random room h
-  moves Begin Response random room h = refl
-  moves Begin SuccessRequest random room h = refl
-  moves Begin FailureRequest random room h = refl
-  moves Begin RetryRequest random room h = refl
-  moves Begin SuccessResponse random room h = refl
-  moves Begin FailureResponse random room h = refl
-  moves Begin EapSuccess random room h = refl
-  moves Begin EapFailure random room h = refl
-  moves ChallengeResponseSent Challenge random room h = refl
-  moves ChallengeResponseSent Response random room h = refl
-  moves ChallengeResponseSent SuccessRequest random room h = confirms room h
-  moves ChallengeResponseSent FailureRequest random room h = fails room
-  moves ChallengeResponseSent RetryRequest random room h = waits h
-  moves ChallengeResponseSent SuccessResponse random room h = refl
-  moves ChallengeResponseSent FailureResponse random room h = refl
-  moves ChallengeResponseSent EapSuccess random room h = refl
-  moves ChallengeResponseSent EapFailure random room h = refl
-  moves SuccessResponseSent Challenge random room h = refl
-  moves SuccessResponseSent Response random room h = refl
-  moves SuccessResponseSent SuccessRequest random room h = refl
-  moves SuccessResponseSent FailureRequest random room h = refl
-  moves SuccessResponseSent RetryRequest random room h = refl
-  moves SuccessResponseSent SuccessResponse random room h = refl
-  moves SuccessResponseSent FailureResponse random room h = refl
-  moves SuccessResponseSent EapSuccess random room h = refl
-  moves SuccessResponseSent EapFailure random room h = refl
-  moves FailureResponseSent Challenge random room h = refl
-  moves FailureResponseSent Response random room h = refl
-  moves FailureResponseSent SuccessRequest random room h = refl
-  moves FailureResponseSent FailureRequest random room h = refl
-  moves FailureResponseSent RetryRequest random room h = refl
-  moves FailureResponseSent SuccessResponse random room h = refl
-  moves FailureResponseSent FailureResponse random room h = refl
-  moves FailureResponseSent EapSuccess random room h = refl
-  moves FailureResponseSent EapFailure random room h = refl
-  moves Waiting kind random room h = refl
-  moves Success kind random room h = refl
-  moves Failed kind random room h = refl
+  moves : (kind : Kind) → Past kind (k .challenge .start) (k .response .start) → unnumbered (movedOf (moveOf kind) p (under i k) q random room) ≡ unnumbered (movedOf (moveOf kind) p (under j k) q′ random room)
+  unfolding movedOf answerOf leftBy nextOf pick
+  moves Challenge h = responds h
+  moves Response h = refl
+  moves SuccessRequest h = confirms h
+  moves FailureRequest h = bare FailureResponseSent (failureResponse i) (failureResponse j) (twin 2 i j _)
+  moves RetryRequest h = waits h
+  moves SuccessResponse h = refl
+  moves FailureResponse h = refl
+  moves EapSuccess h = refl
+  moves EapFailure h = refl
+
+  -- no other turn looks into the packet
+  turns : (stage : Stage) (kind : Kind) → Past kind (k .challenge .start) (k .response .start) → unnumbered (movedOf (turnOf stage kind false false) p (under i k) q random room) ≡ unnumbered (movedOf (turnOf stage kind false false) p (under j k) q′ random room)
+  unfolding turnOf movedOf answerOf leftBy nextOf pick
+  turns stage kind h =
+      arms (λ m. unnumbered (movedOf m p (under i k) q random room) ≡ unnumbered (movedOf m p (under j k) q′ random room)) (repeats stage kind false) refl
+      (arms (λ m. unnumbered (movedOf m p (under i k) q random room) ≡ unnumbered (movedOf m p (under j k) q′ random room)) (not (takes stage kind)) refl
+      (arms (λ m. unnumbered (movedOf m p (under i k) q random room) ≡ unnumbered (movedOf m p (under j k) q′ random room)) (misnumbered stage kind false) refl
+      (moves kind h)))
 
 -- ---- 4
 unread : (p : Peer) (s random : List ℕ) (room n : ℕ) → readPacket end.Peer s ≡ refusal n → eqb n 0 ≡ false → stepOf p s random room ≡ refused n p
@@ -185,7 +143,7 @@ unfolding stepOf readOf
 unread p s random room n e z = ap (λ (t : Told Packet). readOf t p s random room) e ∙ pick-false _ _ _ z
 
 pub equality-only : EqualityOnly
-equality-only p code i j rest random room n m = go (read-alike s s′ t)
+equality-only p code i j rest random room n m = go (read-renumbered i j end.Peer code rest)
   where
     s : List ℕ
     s = code ∷ i ∷ rest
@@ -196,9 +154,9 @@ equality-only p code i j rest random room n m = go (read-alike s s′ t)
     t : Twin s s′
     t = twin code i j rest
 
-    go : Alike i j (readPacket end.Peer s) (readPacket end.Peer s′) → unnumbered (stepOf p s random room) ≡ unnumbered (stepOf p s′ random room)
+    go : Renumbered i j (readPacket end.Peer s) (readPacket end.Peer s′) → unnumbered (stepOf p s random room) ≡ unnumbered (stepOf p s′ random room)
     go (none x z e f) = ap unnumbered (unread p s random room x e z ∙ sym (unread p s′ random room x f z))
     go (some k e f) =
         ap unnumbered (newly p s random room (under i k) e n)
-        ∙ moves p k i j (take (k .length) s) (take (k .length) s′) (twin-take s s′ (k .length) t) (p .stage) (k .kind) random room (past (k .kind) (take (k .length) s) (under i k) (tells end.Peer s (under i k) e .shape))
+        ∙ turns p k i j (take (k .length) s) (take (k .length) s′) random room (twin-take s s′ (k .length) t) (p .stage) (k .kind) (past (k .kind) (take (k .length) s) (under i k) (tells end.Peer s (under i k) e .shape))
         ∙ ap unnumbered (sym (newly p s′ random room (under j k) f m))

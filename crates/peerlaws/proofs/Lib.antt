@@ -1,10 +1,10 @@
+pub mod Forward
 pub mod Views
 pub mod Sizes
 pub mod Promises
-pub mod Kept
-pub mod Standing
+pub mod Repeats
+pub mod Consistent
 pub mod Earned
-pub mod Taken
 pub mod Twins
 pub mod Identifiers
 pub mod ReadBack

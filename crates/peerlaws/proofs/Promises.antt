@@ -3,7 +3,7 @@ use Prim.Native.Nat.{ℕ}
 use mathlib.Core.Path.{_≡_, refl, sym, ap, _∙_}
 use mathlib.Core.List.{List, []}
 use mathlib.Core.Logic.{_⊎_, inl, inr}
-use mathlib.Core.Bool.{Bool, true, false}
+use mathlib.Core.Bool.{Bool, true, false, not}
 use native.Mathlib.Omega.{arith}
 use lib.ListN.{length, getD, take}
 use lib.Dec.{eqb}
@@ -11,21 +11,24 @@ use borrow.Author.Tests.{ne-eqb}
 use Rattle.octets.specs.Choice.{pick}
 use Rattle.octets.specs.Lists.{over}
 use Rattle.octets.specs.Octets.{octetIs, same}
-use Rattle.octets.proofs.Exits.{pick-true, pick-false, clash}
+use Rattle.octets.proofs.Exits.{pick-true, pick-false}
 use Rattle.answer.specs.Outcome.{Told, gives, Outcome, refused, Does}
+use Rattle.answer.proofs.Outcomes.{fitting-so}
 use Rattle.packet.specs.declared.End.the-variants as end
+use Rattle.packet.specs.declared.Kind.{Kind}
 use Rattle.packet.specs.declared.Packet.{Packet}
 use Rattle.packet.specs.Reader.{readPacket}
 use Rattle.packet.specs.Forms.{header, chapPacket, responsePacket, successResponse, failureResponse}
 use Rattle.peer.specs.declared.Stage.{Stage}
-use Rattle.peer.specs.declared.Stage.the-variants.{Begin, ChallengeResponseSent, SuccessResponseSent, FailureResponseSent, Waiting, Success, Failed}
+use Rattle.peer.specs.declared.Stage.the-variants.{Waiting, Success, Failed}
 use Rattle.peer.specs.declared.Peer.{Peer}
-use Rattle.peer.specs.State.{lastRequest, lastReply, responseTo, staged, answered, responded, kept, supplied as suppliedState}
-use Rattle.peer.specs.Moves.{repeats, turnOf}
-use Rattle.peer.specs.Calls.{responseIn, respondedTo, movedOf, turnIn, takenOf, readOf, stepOf, responseBy, suppliedBy}
-use Rattle.peer.proofs.Readings.{Seen, none as unread, some, seen}
+use Rattle.peer.specs.State.{lastRequest, lastReply, responseTo, staged, answered, responded, awaiting, supplied as suppliedState}
+use Rattle.peer.specs.Moves.{takes, sent, repeats, turnOf}
+use Rattle.peer.specs.Calls.{answerOf, leftBy, movedOf, turnIn, takenOf, readOf, stepOf, responseBy}
+use Rattle.packet.proofs.Readings.{ReadOrRefused, none as unread, some, read-or-refused}
 use Rattle.peerlaws.specs.Runs.{step, supply, giveUp, callOf}
-use Rattle.peerlaws.specs.Promises.{Leaves, written, credentials, authenticated, ended, refusal, AnswersLeave, Repeats, Confirms, SuccessOnlyIfRight, takesNone, NoPacketTaken}
+use Rattle.peerlaws.specs.Promises.{Leaves, written, credentials, authenticated, ended, refusal, AnswersLeave, Repeats, Confirms, SuccessOnlyIfRight, NoPacketTaken}
+use Rattle.peerlaws.proofs.Forward.{responseIn}
 use Rattle.peerlaws.proofs.Views.{Moved, responds, accepts, fails, waits, succeeds, ends, Stepped, stepped, Supplied, supplied, GaveUp, gave-up}
 use Rattle.peerlaws.proofs.Views as view
 
@@ -36,7 +39,7 @@ Left p b o = Leaves p b (o .number) (length (o .octets)) (o .state) (over (o .oc
 
 module _ {p : Peer} {b : List ℕ} {room : ℕ} (e : length b ≡ room) where
   moved-leaves : {k : Packet} {q random : List ℕ} {o : Outcome Peer} → Moved p k q random room o → Left p b o
-  unfolding respondedTo responded answered kept staged
+  unfolding responded answered awaiting staged
   moved-leaves {k} {q} {random} (responds f g h) = written (responseIn p k q random) _ (rw (← e) at h) refl
   moved-leaves {k} (accepts f g r h) = written (successResponse (k .id .0)) _ (rw (← e) at h) refl
   moved-leaves {k} (fails f g h) = written (failureResponse (k .id .0)) _ (rw (← e) at h) refl
@@ -50,7 +53,7 @@ module _ {p : Peer} {b : List ℕ} {room : ℕ} (e : length b ≡ room) where
   step-leaves (view.moves k f m) = moved-leaves m
 
   supply-leaves : {name hash random : List ℕ} {o : Outcome Peer} → Supplied p name hash random room o → Left p b o
-  unfolding suppliedBy suppliedState
+  unfolding suppliedState
   supply-leaves (view.refuses n h l) = refusal n h l
   supply-leaves {name} {hash} {random} (view.supplies w f h) = written (responseBy p name hash random) _ (rw (← e) at h) refl
 
@@ -78,7 +81,7 @@ pub other : {A : Type 0} (q : List ℕ) (id x : ℕ) → getD q 5 0 ≡ x → (x
 other q id x f n e = absurd (n (sym f ∙ ap (λ (l : List ℕ). getD l 5 0) e))
 
 pub moved-confirms : {p : Peer} {s random : List ℕ} {room id : ℕ} {o : Outcome Peer} (k : Packet) → readPacket end.Peer s ≡ gives k → Moved p k (take (k .length) s) random room o → o .octets ≡ successResponse id → Confirms p s
-unfolding responseIn responseTo
+unfolding responseTo
 moved-confirms k e (responds f g h) z = other _ _ 2 (response-op _ _ _ _ _) (λ n. absurd (omega arith)) z
 moved-confirms k e (accepts f g r h) z = record { stage = f; packet = k; reads = e; success = g; right = r }
 moved-confirms k e (fails f g h) z = other _ _ 4 refl (λ n. absurd (omega arith)) z
@@ -107,25 +110,26 @@ success-only-if-right p (supply name hash random room) id z = supply-confirms (s
 success-only-if-right p giveUp id z = give-up-confirms (gave-up p) z
 
 -- ---- 5
-none : (stage : Stage) (p : Peer) (k : Packet) (q random : List ℕ) (room : ℕ) (same known : Bool) → takesNone stage ≡ true → movedOf (turnOf stage (k .kind) same known) p k q random room ≡ refused 19 p
-unfolding turnOf repeats pick movedOf
-none Begin p k q random room same known e = clash refl e
-none ChallengeResponseSent p k q random room same known e = clash refl e
-none SuccessResponseSent p k q random room same known e = clash refl e
-none FailureResponseSent p k q random room same known e = clash refl e
-none Waiting p k q random room same known e = refl
-none Success p k q random room same known e = refl
-none Failed p k q random room same known e = refl
+none : (stage : Stage) (kind : Kind) (p : Peer) (k : Packet) (q random : List ℕ) (room : ℕ) (same known : Bool) → sent stage ≡ false → takes stage kind ≡ false → movedOf (turnOf stage kind same known) p k q random room ≡ refused 19 p
+unfolding turnOf repeats movedOf answerOf leftBy pick
+none stage kind p k q random room same known e t =
+    ap (λ m. movedOf m p k q random room) (pick-false _ _ _ (pick-true _ _ _ (ap not e)) ∙ pick-true _ _ _ (ap not t)) ∙ fitting-so room p (refused 19 p) (omega arith)
+
+resting : (stage : Stage) (kind : Kind) → (stage ≡ Waiting) ⊎ ((stage ≡ Success) ⊎ (stage ≡ Failed)) → (sent stage ≡ false) × (takes stage kind ≡ false)
+resting stage kind (inl e) = (ap sent e, ap (λ (g : Stage). takes g kind) e)
+resting stage kind (inr (inl e)) = (ap sent e, ap (λ (g : Stage). takes g kind) e)
+resting stage kind (inr (inr e)) = (ap sent e, ap (λ (g : Stage). takes g kind) e)
 
 pub no-packet-taken : NoPacketTaken
 unfolding stepOf readOf takenOf turnIn
-no-packet-taken p s random room k h e = go (seen end.Peer s) e
+no-packet-taken p s random room k h e = go (read-or-refused end.Peer s) e
   where
-    go : {t : Told Packet} → Seen s t → k ≡ t .number → readOf t p s random room ≡ refused (pick (eqb k 0) 19 k) p
+    go : {t : Told Packet} → ReadOrRefused s t → k ≡ t .number → readOf t p s random room ≡ refused (pick (eqb k 0) 19 k) p
     go (unread n l m) f =
         let z : eqb n 0 ≡ false = ne-eqb n 0 (λ z. absurd (omega arith)) in
         rw f (pick-false _ _ _ z ∙ ap (λ (x : ℕ). refused x p) (sym (pick-false (eqb n 0) 19 n z)))
     go (some x i) f =
+        let r = resting (p .stage) (x .kind) h in
         rw f (pick-true _ _ _ refl
-        ∙ none (p .stage) p x (take (x .length) s) random room (same (take (x .length) s) (lastRequest p)) (octetIs (lastRequest p) 1 (x .id .0)) h
+        ∙ none (p .stage) (x .kind) p x (take (x .length) s) random room (same (take (x .length) s) (lastRequest p)) (octetIs (lastRequest p) 1 (x .id .0)) (r .0) (r .1)
         ∙ ap (λ (n : ℕ). refused n p) (sym (pick-true true 19 0 refl)))

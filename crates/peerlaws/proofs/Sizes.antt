@@ -7,57 +7,60 @@ use lib.Dec.{ltb}
 use Rattle.octets.proofs.Exits.{arms}
 use Rattle.octets.proofs.Lists.{length-cells, length-sized}
 use Rattle.answer.specs.Outcome.{Outcome}
+use Rattle.answer.specs.Sizes.{maxPacket, maxName}
 use Rattle.packet.specs.declared.Packet.{Packet}
+use Rattle.packet.specs.Reader.{challengeIn}
 use Rattle.peer.specs.declared.Stage.{Stage}
 use Rattle.peer.specs.declared.Stage.the-variants.{Begin, Failed}
 use Rattle.peer.specs.declared.Peer.{Peer}
-use Rattle.peer.specs.State.{fresh, staged, answered, responded, kept, supplied as suppliedState}
-use Rattle.peer.specs.Calls.{newOf, challengeIn, renewedIn, respondedTo, suppliedBy}
-use Rattle.peerlaws.specs.Runs.{Call, step, supply, giveUp, callOf, IsPeer, IsCall}
+use Rattle.peer.specs.State.{replyRoom, credentialsOf, initial, staged, answered, responded, awaiting, supplied as suppliedState}
+use Rattle.peer.specs.Calls.{newOf, renewedIn}
+use Rattle.peerlaws.specs.Runs.{Call, step, supply, giveUp, callOf, IsCredentials, IsPeer, IsCall}
 use Rattle.peerlaws.proofs.Views.{Moved, responds, accepts, fails, waits, succeeds, ends, Stepped, stepped, Supplied, supplied, GaveUp, gave-up}
 use Rattle.peerlaws.proofs.Views as view
 
-is-fresh : (stage : Stage) (name hash : List ℕ) → length hash ≡ 16 → IsPeer (fresh stage name hash)
-unfolding fresh
-is-fresh stage name hash h = record {
-  name = length-sized 256 name;
-  hash = h;
-  authchallenge = length-replicate {A = ℕ} 16 0;
-  peerchallenge = length-replicate {A = ℕ} 16 0;
-  request = length-replicate {A = ℕ} 1020 0;
-  reply = length-replicate {A = ℕ} 315 0;
+is-credentials : (name hash : List ℕ) → length hash ≡ 16 → IsCredentials (credentialsOf name hash)
+is-credentials name hash h = record { name = length-sized maxName name; hash = h }
+
+is-initial : (stage : Stage) (name hash : List ℕ) → length hash ≡ 16 → IsPeer (initial stage name hash)
+unfolding initial
+is-initial stage name hash h = record {
+  credentials = is-credentials name hash h;
+  challenges = record { authenticator = length-replicate {A = ℕ} 16 0; own = length-replicate {A = ℕ} 16 0 };
+  request = length-replicate {A = ℕ} maxPacket 0;
+  reply = length-replicate {A = ℕ} replyRoom 0;
 }
 
 pub new-is : (name hash : List ℕ) → length hash ≡ 16 → IsPeer (newOf name hash .state)
 unfolding newOf
-new-is name hash h = arms (λ (o : Outcome Peer). IsPeer (o .state)) (ltb 256 (length name)) (is-fresh Failed [] _ (length-replicate {A = ℕ} 16 0)) (is-fresh Begin name hash h)
+new-is name hash h = arms (λ (o : Outcome Peer). IsPeer (o .state)) (ltb maxName (length name)) (is-initial Failed [] _ (length-replicate {A = ℕ} 16 0)) (is-initial Begin name hash h)
 
 module _ (p : Peer) (i : IsPeer p) where
   is-staged : (stage : Stage) → IsPeer (staged stage p)
   unfolding staged
-  is-staged stage = record { name = i .name; hash = i .hash; authchallenge = i .authchallenge; peerchallenge = i .peerchallenge; request = i .request; reply = i .reply }
+  is-staged stage = record { credentials = i .credentials; challenges = i .challenges; request = i .request; reply = i .reply }
 
   is-answered : (stage : Stage) (q w : List ℕ) → IsPeer (answered stage q w p)
   unfolding answered
-  is-answered stage q w = record { name = i .name; hash = i .hash; authchallenge = i .authchallenge; peerchallenge = i .peerchallenge; request = length-sized 1020 q; reply = length-sized 315 w }
+  is-answered stage q w = record { credentials = i .credentials; challenges = i .challenges; request = length-sized maxPacket q; reply = length-sized replyRoom w }
 
-  is-responded : (k : Packet) (q random : List ℕ) → length random ≡ 16 → IsPeer (respondedTo p k q random)
-  unfolding respondedTo responded challengeIn
-  is-responded k q random r = record { name = i .name; hash = i .hash; authchallenge = length-sized 16 _; peerchallenge = r; request = length-sized 1020 q; reply = length-sized 315 _ }
+  is-responded : (k : Packet) (q random w : List ℕ) → length random ≡ 16 → IsPeer (responded (challengeIn k q) random (k .chapid) q w p)
+  unfolding responded challengeIn
+  is-responded k q random w r = record { credentials = i .credentials; challenges = record { authenticator = length-sized 16 _; own = r }; request = length-sized maxPacket q; reply = length-sized replyRoom _ }
 
-  is-kept : (k : Packet) (q : List ℕ) → IsPeer (kept (renewedIn k q) (k .chapid) q p)
-  unfolding kept renewedIn
-  is-kept k q = record { name = i .name; hash = i .hash; authchallenge = length-cells 16 _; peerchallenge = i .peerchallenge; request = length-sized 1020 q; reply = i .reply }
+  is-awaiting : (k : Packet) (q : List ℕ) → IsPeer (awaiting (renewedIn k q) (k .chapid) q p)
+  unfolding awaiting renewedIn
+  is-awaiting k q = record { credentials = i .credentials; challenges = record { authenticator = length-cells 16 _; own = i .challenges .own }; request = length-sized maxPacket q; reply = i .reply }
 
-  is-supplied : (name hash random : List ℕ) → length hash ≡ 16 → length random ≡ 16 → IsPeer (suppliedBy p name hash random)
-  unfolding suppliedBy suppliedState
-  is-supplied name hash random e r = record { name = length-sized 256 name; hash = e; authchallenge = i .authchallenge; peerchallenge = r; request = i .request; reply = length-sized 315 _ }
+  is-supplied : (name hash random w : List ℕ) → length hash ≡ 16 → length random ≡ 16 → IsPeer (suppliedState name hash random w p)
+  unfolding suppliedState
+  is-supplied name hash random w e r = record { credentials = is-credentials name hash e; challenges = record { authenticator = i .challenges .authenticator; own = r }; request = i .request; reply = length-sized replyRoom _ }
 
   moved-is : {k : Packet} {q random : List ℕ} {room : ℕ} {o : Outcome Peer} → length random ≡ 16 → Moved p k q random room o → IsPeer (o .state)
-  moved-is {k} {q} {random} r (responds f g l) = is-responded k q random r
+  moved-is {k} {q} {random} r (responds f g l) = is-responded k q random _ r
   moved-is r (accepts f g d l) = is-answered _ _ _
   moved-is r (fails f g l) = is-answered _ _ _
-  moved-is {k} {q} r (waits f g) = is-kept k q
+  moved-is {k} {q} r (waits f g) = is-awaiting k q
   moved-is r (succeeds f) = is-staged _
   moved-is r ends = is-staged _
 
@@ -68,7 +71,7 @@ module _ (p : Peer) (i : IsPeer p) where
 
   supply-is : {name hash random : List ℕ} {room : ℕ} {o : Outcome Peer} → length hash ≡ 16 → length random ≡ 16 → Supplied p name hash random room o → IsPeer (o .state)
   supply-is e r (view.refuses n h l) = i
-  supply-is {name} {hash} {random} e r (view.supplies w f l) = is-supplied name hash random e r
+  supply-is {name} {hash} {random} e r (view.supplies w f l) = is-supplied name hash random _ e r
 
   give-up-is : {o : Outcome Peer} → GaveUp p o → IsPeer (o .state)
   give-up-is (view.refuses n h l) = i

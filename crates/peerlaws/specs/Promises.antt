@@ -1,8 +1,8 @@
--- What holds of the logger's end as a whole: over every state that can be handed in, and over lists of calls.
+-- What holds of the peer's end as a whole: over every state that can be handed in, and over lists of calls.
 use Prim.Native.Nat.{ℕ, _+_, _≤_}
 use mathlib.Core.Path.{_≡_}
 use mathlib.Core.List.{List, [], _∷_, _++_}
-use mathlib.Core.Bool.{Bool, true, false, _||_}
+use mathlib.Core.Bool.{true, _||_}
 use mathlib.Core.Logic.{_⊎_}
 use lib.ListN.{length, getD, take, drop, set}
 use lib.Dec.{eqb}
@@ -11,19 +11,21 @@ use Rattle.octets.specs.Lists.{part, over}
 use Rattle.octets.specs.Octets.{numberAt}
 use Rattle.octets.specs.declared.Order.the-variants.{Big}
 use Rattle.answer.specs.Outcome.{gives, Outcome, outcome, refused, fitting, Does}
+use Rattle.answer.specs.Sizes.{maxName}
 use Rattle.packet.specs.declared.End.the-variants as end
 use Rattle.packet.specs.declared.Kind.the-variants as kind
 use Rattle.packet.specs.declared.Packet.{Packet}
-use Rattle.packet.specs.Reader.{readPacket, reading, place, nowhere}
-use Rattle.packet.specs.Forms.{successResponse}
+use Rattle.packet.specs.Kinds.{isRequest}
+use Rattle.packet.specs.Reader.{at, challengePlace, ntResponsePlace, readPacket, reading, place, nowhere}
+use Rattle.packet.specs.Forms.{responseNameAt, successResponse}
 use Rattle.mschap.specs.Users.{userOf}
 use Rattle.mschap.specs.Responses.{ntResponse, authenticatorOf, digitsOf}
 use Rattle.peer.specs.declared.Stage.{Stage}
 use Rattle.peer.specs.declared.Stage.the-variants.{Begin, ChallengeResponseSent, SuccessResponseSent, FailureResponseSent, Waiting, Success, Failed}
 use Rattle.peer.specs.declared.Peer.{Peer}
-use Rattle.peer.specs.State.{nameOf, lastRequest, lastReply, lastId, responseTo, outstanding, rightDigits}
-use Rattle.peer.specs.Moves.{sent, waiting, isRequest}
-use Rattle.peer.specs.Calls.{newOf, renewedIn, digitsIn, respondOf, confirmOf, failOf, waitOf, stepOf, suppliedBy, supplyOf}
+use Rattle.peer.specs.State.{ownName, lastRequest, lastReply, lastId, responseTo, outstanding, rightDigits, supplied}
+use Rattle.peer.specs.Moves.{takes, moveOf, sent, waiting}
+use Rattle.peer.specs.Calls.{newOf, renewedIn, digitsIn, movedOf, stepOf, supplyOf}
 use Rattle.peerlaws.specs.Runs.{Call, step, supply, giveUp, callOf, roomOf, after, IsPeer, IsCall, AreCalls, Reached}
 
 -- ---- 1. "What a call answers": the number, n, the state and the buffer that a call can leave, where it took the state p and the buffer b
@@ -57,23 +59,19 @@ pub record Confirms (p : Peer) (s : List ℕ) : Type 0 where
   pub success : packet .kind ≡ kind.SuccessRequest
   pub right : digitsIn packet (take (packet .length) s) ≡ rightDigits p
 
-abbrev pub RepeatsBy : Peer → Call → Type 0
-RepeatsBy p (step s random room) = Repeats p s
-RepeatsBy p (supply name hash random room) = ⊥
-RepeatsBy p giveUp = ⊥
-
-abbrev pub ConfirmsBy : Peer → Call → Type 0
-ConfirmsBy p (step s random room) = Confirms p s
-ConfirmsBy p (supply name hash random room) = ⊥
-ConfirmsBy p giveUp = ⊥
+-- the call is a step, with such a packet
+abbrev pub ByStep : (Peer → List ℕ → Type 0) → Peer → Call → Type 0
+ByStep P p (step s random room) = P p s
+ByStep P p (supply name hash random room) = ⊥
+ByStep P p giveUp = ⊥
 
 abbrev pub SuccessOnlyIfRight : Type 0
-SuccessOnlyIfRight = (p : Peer) (c : Call) (id : ℕ) → callOf p c .octets ≡ successResponse id → RepeatsBy p c ⊎ ConfirmsBy p c
+SuccessOnlyIfRight = (p : Peer) (c : Call) (id : ℕ) → callOf p c .octets ≡ successResponse id → ByStep Repeats p c ⊎ ByStep Confirms p c
 
 -- one of the calls brought it
 abbrev pub SomeConfirms : Peer → List Call → Type 0
 SomeConfirms p [] = ⊥
-SomeConfirms p (c ∷ cs) = ConfirmsBy p c ⊎ SomeConfirms (callOf p c .state) cs
+SomeConfirms p (c ∷ cs) = ByStep Confirms p c ⊎ SomeConfirms (callOf p c .state) cs
 
 -- over any calls on from a made peer p, of which c is the last: no Success Response, and no answer 2, without the right string
 abbrev pub SuccessEarned : Type 0
@@ -95,19 +93,19 @@ Answers p (step s random room) q = (stepOf p s random room .number ≡ 0) × (q 
 Answers p (supply name hash random room) q = (supplyOf p name hash random room .number ≡ 0) × (q ≡ lastRequest p)
 Answers p giveUp q = ⊥
 
--- a call that leaves the last answer standing: it is refused, or the answered request came again
-abbrev pub Stands : Peer → Call → Type 0
-Stands p c = (10 ≤ callOf p c .number) ⊎ RepeatsBy p c
+-- a call that brings no new answer: it is refused, or the answered request came again
+abbrev pub NoNewAnswer : Peer → Call → Type 0
+NoNewAnswer p c = (10 ≤ callOf p c .number) ⊎ ByStep Repeats p c
 
-abbrev pub AllStand : Peer → List Call → Type 0
-AllStand p [] = Unit {0}
-AllStand p (c ∷ cs) = Stands p c × AllStand (callOf p c .state) cs
+abbrev pub NoNewAnswers : Peer → List Call → Type 0
+NoNewAnswers p [] = Unit {0}
+NoNewAnswers p (c ∷ cs) = NoNewAnswer p c × NoNewAnswers (callOf p c .state) cs
 
 -- p′ is the state after c, which answered q, and any such calls: q comes again, with any padding
 abbrev pub Repeated : Peer → Type 0
 Repeated p =
     (p′ : Peer) (c : Call) (cs : List Call) (q pad random : List ℕ) (room : ℕ) →
-    IsCall c → Answers p c q → AllStand (callOf p c .state) cs → p′ ≡ after (callOf p c .state) cs →
+    IsCall c → Answers p c q → NoNewAnswers (callOf p c .state) cs → p′ ≡ after (callOf p c .state) cs →
     stepOf p′ (q ++ pad) random room ≡ fitting room p′ (outcome 0 (callOf p c .octets) p′)
 
 -- from any state, but that a WAITING one keeps a Request; from any state that calls make
@@ -119,19 +117,8 @@ RepeatRuleReached = (p : Peer) → Reached p → Repeated p
 
 -- ---- 4. Identifiers are compared for equality only: but for itself, an Identifier that is not the last answered one changes nothing
 unfoldable pub unnumberedState : Peer → Peer
-unnumberedState p = record {
-  stage = p .stage;
-  name = p .name;
-  namelen = p .namelen;
-  hash = p .hash;
-  authchallenge = p .authchallenge;
-  peerchallenge = p .peerchallenge;
-  chapid = p .chapid;
-  request = set (p .request) 1 0;
-  requestlen = p .requestlen;
-  reply = set (p .reply) 1 0;
-  replylen = p .replylen;
-}
+unnumberedState p =
+    record { stage = p .stage; credentials = p .credentials; challenges = p .challenges; request = set (p .request) 1 0; requestlen = p .requestlen; reply = set (p .reply) 1 0; replylen = p .replylen }
 
 -- an outcome with 0 for the Identifier in its reply, and in the request and the reply that the state stores
 unfoldable pub unnumbered : Outcome Peer → Outcome Peer
@@ -147,19 +134,10 @@ EqualityOnly =
     unnumbered (stepOf p (code ∷ i ∷ rest) random room) ≡ unnumbered (stepOf p (code ∷ j ∷ rest) random room)
 
 -- ---- 5. "WAITING, SUCCESS, FAILED | no packet | 19"
-abbrev pub takesNone : Stage → Bool
-takesNone Begin = false
-takesNone ChallengeResponseSent = false
-takesNone SuccessResponseSent = false
-takesNone FailureResponseSent = false
-takesNone Waiting = true
-takesNone Success = true
-takesNone Failed = true
-
 -- 10 to 17 where the reader gives one, and else 19
 abbrev pub NoPacketTaken : Type 0
 NoPacketTaken =
-    (p : Peer) (s random : List ℕ) (room k : ℕ) → takesNone (p .stage) ≡ true → k ≡ readPacket end.Peer s .number →
+    (p : Peer) (s random : List ℕ) (room k : ℕ) → (p .stage ≡ Waiting) ⊎ ((p .stage ≡ Success) ⊎ (p .stage ≡ Failed)) → k ≡ readPacket end.Peer s .number →
     stepOf p s random room ≡ refused (pick (eqb k 0) 19 k) p
 
 -- ---- 6. Replies. The packet that a call answers
@@ -177,10 +155,10 @@ ReadsAs w x = (pad : List ℕ) → readPacket end.Server (w ++ pad) ≡ gives x
 abbrev pub ReadsBack : List ℕ → Stage → Peer → List ℕ → Type 0
 ReadsBack request Begin s w = ⊥
 ReadsBack request ChallengeResponseSent s w =
-    ReadsAs w (reading kind.Response (getD request 1 0) (getD request 6 0) (59 + length (nameOf s)) 0 (place 10 16) (place 34 24) (place 59 (length (nameOf s))))
-    × (part w 10 16 ≡ s .peerchallenge)
-    × (part w 34 24 ≡ ntResponse (s .authchallenge) (s .peerchallenge) (userOf (nameOf s)) (s .hash))
-    × (part w 59 (length (nameOf s)) ≡ nameOf s)
+    ReadsAs w (reading kind.Response (getD request 1 0) (getD request 6 0) (responseNameAt + length (ownName s)) 0 challengePlace ntResponsePlace (place responseNameAt (length (ownName s))))
+    × (at w challengePlace ≡ s .challenges .own)
+    × (at w ntResponsePlace ≡ ntResponse (s .challenges .authenticator) (s .challenges .own) (userOf (ownName s)) (s .credentials .hash))
+    × (part w responseNameAt (length (ownName s)) ≡ ownName s)
 ReadsBack request SuccessResponseSent s w = ReadsAs w (reading kind.SuccessResponse (getD request 1 0) 0 6 0 nowhere nowhere nowhere)
 ReadsBack request FailureResponseSent s w = ReadsAs w (reading kind.FailureResponse (getD request 1 0) 0 6 0 nowhere nowhere nowhere)
 ReadsBack request Waiting s w = ⊥
@@ -194,33 +172,30 @@ RepliesReadBack =
     ReadsBack (requestOf p c) (callOf p c .state .stage) (callOf p c .state) (callOf p c .octets)
     × (length (callOf p c .octets) ≡ numberAt Big (callOf p c .octets) 2)
 
--- "the peer takes any MS-CHAPv2-ID": k is read of the packet, and is asked for its kind and its Identifier alone
-pub record Takes (p : Peer) (s random : List ℕ) (room : ℕ) (k : Packet) : Type 0 where
-  pub challenge : p .stage ≡ Begin → k .kind ≡ kind.Challenge → stepOf p s random room ≡ respondOf p k (take (k .length) s) random room
-  pub success : p .stage ≡ ChallengeResponseSent → k .kind ≡ kind.SuccessRequest → (k .id .0 ≡ lastId p → ⊥) → stepOf p s random room ≡ confirmOf p k (take (k .length) s) room
-  pub failure : p .stage ≡ ChallengeResponseSent → k .kind ≡ kind.FailureRequest → (k .id .0 ≡ lastId p → ⊥) → stepOf p s random room ≡ failOf p k (take (k .length) s) room
-  pub retry : p .stage ≡ ChallengeResponseSent → k .kind ≡ kind.RetryRequest → (k .id .0 ≡ lastId p → ⊥) → stepOf p s random room ≡ waitOf p k (take (k .length) s)
-
+-- "the peer takes any MS-CHAPv2-ID": k is read of the packet, a Request that the stage takes, and is asked for its Identifier alone
 abbrev pub AnyChapIdTaken : Type 0
-AnyChapIdTaken = (p : Peer) (s random : List ℕ) (room : ℕ) (k : Packet) → readPacket end.Peer s ≡ gives k → Takes p s random room k
+AnyChapIdTaken =
+    (p : Peer) (s random : List ℕ) (room : ℕ) (k : Packet) → readPacket end.Peer s ≡ gives k →
+    takes (p .stage) (k .kind) ≡ true → isRequest (k .kind) ≡ true → Unlike p (k .id .0) →
+    stepOf p s random room ≡ movedOf (moveOf (k .kind)) p k (take (k .length) s) random room
 
 -- ---- 7. Over any calls on from a made peer
--- the right string of the Response w, whose peer challenge, NT-Response and name stand at 10, 34 and 59
+-- the right string of the Response w
 abbrev pub rightFor : List ℕ → List ℕ → List ℕ → List ℕ
-rightFor hash authenticator w = digitsOf (authenticatorOf hash (part w 34 24) (part w 10 16) authenticator (userOf (drop 59 w)))
+rightFor hash authenticator w = digitsOf (authenticatorOf hash (at w ntResponsePlace) (at w challengePlace) authenticator (userOf (drop responseNameAt w)))
 
-pub record Standing (p : Peer) : Type 0 where
+pub record Consistent (p : Peer) : Type 0 where
   -- while a Response is outstanding, the stored reply is the Response that the state's name, hash and challenges give
   pub response : p .stage ≡ ChallengeResponseSent → lastReply p ≡ outstanding p
   -- "The peer's right string is the one so computed from its own hash and its outstanding Response."
-  pub string : p .stage ≡ ChallengeResponseSent → rightDigits p ≡ rightFor (p .hash) (p .authchallenge) (lastReply p)
+  pub string : p .stage ≡ ChallengeResponseSent → rightDigits p ≡ rightFor (p .credentials .hash) (p .challenges .authenticator) (lastReply p)
   -- n of a repeat is the stored packet's L
   pub size : (s random : List ℕ) (room : ℕ) → Repeats p s → stepOf p s random room .number ≡ 0 → length (stepOf p s random room .octets) ≡ numberAt Big (lastReply p) 2
   -- what is kept as the request is one
   pub request : (sent (p .stage) || waiting (p .stage)) ≡ true → Request (lastRequest p)
 
-abbrev pub StateStands : Type 0
-StateStands = (p : Peer) → Reached p → Standing p
+abbrev pub StateConsistent : Type 0
+StateConsistent = (p : Peer) → Reached p → Consistent p
 
 -- ---- 8. "it keeps the last answered request"; "answer 1; WAITING, keeping that request and C"
 abbrev pub RequestKept : Type 0
@@ -232,16 +207,15 @@ RequestKept =
 -- is the state after it and any refused calls
 abbrev pub RetryAnswersC : Type 0
 RetryAnswersC =
-    (p p′ : Peer) (s random : List ℕ) (room : ℕ) (k : Packet) (cs : List Call) (name hash own : List ℕ) (room′ : ℕ) →
+    (p p′ : Peer) (s random : List ℕ) (room : ℕ) (k : Packet) (cs : List Call) (name hash own w : List ℕ) (room′ : ℕ) →
     readPacket end.Peer s ≡ gives k → stepOf p s random room .number ≡ 1 →
-    AllStand (stepOf p s random room .state) cs → p′ ≡ after (stepOf p s random room .state) cs → length name ≤ 256 →
-    supplyOf p′ name hash own room′
-    ≡ fitting room′ p′ (outcome 0 (responseTo (k .id .0) (k .chapid .0) (renewedIn k (take (k .length) s)) own name hash) (suppliedBy p′ name hash own))
+    NoNewAnswers (stepOf p s random room .state) cs → p′ ≡ after (stepOf p s random room .state) cs → length name ≤ maxName →
+    w ≡ responseTo (k .id .0) (k .chapid .0) (renewedIn k (take (k .length) s)) own name hash →
+    supplyOf p′ name hash own room′ ≡ fitting room′ p′ (outcome 0 w (supplied name hash own w p′))
 
 -- ---- 9. The random octets are "used only as the peer challenge of a Response made in that step"
-pub record RandomUsed (p : Peer) (s random : List ℕ) (room : ℕ) : Type 0 where
-  pub elsewhere : (p .stage ≡ Begin → ⊥) → (other : List ℕ) → stepOf p s random room ≡ stepOf p s other room
-  pub challenge : p .stage ≡ Begin → stepOf p s random room .number ≡ 0 → part (stepOf p s random room .octets) 10 16 ≡ random
-
 abbrev pub RandomOnlyInResponse : Type 0
-RandomOnlyInResponse = (p : Peer) (s random : List ℕ) (room : ℕ) → length random ≡ 16 → RandomUsed p s random room
+RandomOnlyInResponse =
+    (p : Peer) (s random : List ℕ) (room : ℕ) → length random ≡ 16 →
+    ((p .stage ≡ Begin → ⊥) → (other : List ℕ) → stepOf p s random room ≡ stepOf p s other room)
+    × (p .stage ≡ Begin → stepOf p s random room .number ≡ 0 → at (stepOf p s random room .octets) challengePlace ≡ random)

@@ -1,10 +1,15 @@
--- Calls on the logger's end, one after the other.
+-- Calls on the peer's end, one after the other.
 use Prim.Native.Nat.{ℕ}
 use mathlib.Core.Path.{_≡_}
 use mathlib.Core.List.{List, [], _∷_}
 use lib.ListN.{length}
 use Rattle.answer.specs.Outcome.{Outcome}
+use Rattle.answer.specs.Runs as runs
+use Rattle.answer.specs.Sizes.{maxPacket, maxName}
+use Rattle.peer.specs.declared.Credentials.{Credentials}
+use Rattle.peer.specs.declared.Challenges.{Challenges}
 use Rattle.peer.specs.declared.Peer.{Peer}
+use Rattle.peer.specs.State.{replyRoom}
 use Rattle.peer.specs.Calls.{newOf, stepOf, supplyOf, giveUpOf}
 
 -- room is the size of the lent buffer
@@ -23,20 +28,25 @@ roomOf (step s random room) = room
 roomOf (supply name hash random room) = room
 roomOf giveUp = 0
 
--- the state after a list of calls. Each takes the state that the last one left
-unfoldable pub after : Peer → List Call → Peer
-after p [] = p
-after p (c ∷ cs) = after (callOf p c .state) cs
+-- the state after a list of calls
+abbrev pub after : Peer → List Call → Peer
+after p cs = runs.after (λ (o : Outcome Peer). o .state) callOf p cs
 
 -- hashes, challenges and random octets "are values of 16 octets and can't have another size", and so with the state's arrays:
 -- here they are lists, whose types do not say so
+pub record IsCredentials (c : Credentials) : Type 0 where
+  pub name : length (c .name) ≡ maxName
+  pub hash : length (c .hash) ≡ 16
+
+pub record IsChallenges (c : Challenges) : Type 0 where
+  pub authenticator : length (c .authenticator) ≡ 16
+  pub own : length (c .own) ≡ 16
+
 pub record IsPeer (p : Peer) : Type 0 where
-  pub name : length (p .name) ≡ 256
-  pub hash : length (p .hash) ≡ 16
-  pub authchallenge : length (p .authchallenge) ≡ 16
-  pub peerchallenge : length (p .peerchallenge) ≡ 16
-  pub request : length (p .request) ≡ 1020
-  pub reply : length (p .reply) ≡ 315
+  pub credentials : IsCredentials (p .credentials)
+  pub challenges : IsChallenges (p .challenges)
+  pub request : length (p .request) ≡ maxPacket
+  pub reply : length (p .reply) ≡ replyRoom
 
 abbrev pub IsCall : Call → Type 0
 IsCall (step s random room) = length random ≡ 16

@@ -17,7 +17,7 @@ use Rattle.octets.proofs.Exits.{pick-true, pick-false, gave-not, below, tested,
 use Rattle.octets.proofs.Lists.{put-fits}
 use Rattle.roster.specs.Account.{recordFor}
 use Rattle.roster.specs.Lines.{upto, before, after, trimmed, entryOf}
-use Rattle.roster.specs.Made.{linesOf, isAccount, isFault, Taken, taken, addedTo, addedBy, recordIn, takenOf, Result, result, madeFrom, madeOf, Makes, Told}
+use Rattle.roster.specs.Made.{linesOf, isAccount, isFault, AfterLine, afterLine, addedTo, addedBy, recordIn, addedLine, Result, result, madeFrom, madeOf, Makes, MadeBy}
 use Rattle.roster.specs.declared.Line.{Line}
 use Rattle.roster.specs.declared.Line.the-variants.{Blank, Full}
 use Rattle.roster.specs.declared.Entry.{Entry}
@@ -55,17 +55,17 @@ module _ (d q l : List ℕ) (n r : ℕ) (h : n ≤ length d) (a : Appended d n q
       (a .place ∙ pick-true _ _ _ (le-leb _ _ k) ∙ sym m ∙ ap length (sym e), a .now ∙ put-fits d q n k ∙ ap (λ (i : ℕ). (take n d ++ q) ++ drop i d) (sym m) ∙ ap (λ (t : List ℕ). over t d) (sym e)))
 
 -- ---- a line
-makes-by : (o o′ : Taken) (l : Line) (n : ℕ) (d d′ : List ℕ) → o ≡ o′ → Makes o′ l n d d′ → Makes o l n d d′
+makes-by : (o o′ : AfterLine) (l : Line) (n : ℕ) (d d′ : List ℕ) → o ≡ o′ → Makes o′ l n d d′ → Makes o l n d d′
 makes-by o o′ l n d d′ e p = rw e p
 
 module _ (d s : List ℕ) (n : ℕ) (e : Entry) (b : Bool) (h : n ≤ length d) (ee : e ≡ entryOf s) (eb : b ≡ isAccount (e .line)) where
   told-account : b ≡ isAccount (entryOf s .line)
   told-account = eb ∙ ap (λ (x : Entry). isAccount (x .line)) ee
 
-  pub take-none : not b ≡ true → Makes (takenOf (length d) (take n d) s) (e .line) n d d
-  unfolding takenOf addedBy
+  pub take-none : not b ≡ true → Makes (addedLine (length d) (take n d) s) (e .line) n d d
+  unfolding addedLine addedBy
   take-none t =
-      let o : takenOf (length d) (take n d) s ≡ taken (e .line) (take n d) = pick-true _ _ _ (gave-not _ _ _ told-account t) ∙ ap (λ (x : Entry). taken (x .line) (take n d)) (sym ee) in
+      let o : addedLine (length d) (take n d) s ≡ afterLine (e .line) (take n d) = pick-true _ _ _ (gave-not _ _ _ told-account t) ∙ ap (λ (x : Entry). afterLine (x .line) (take n d)) (sym ee) in
       makes-by _ _ _ n d d o (record { told = refl; count = sym (length-take-le n d h); written = over-own n d h })
 
   module _ (x l : List ℕ) (r : ℕ) (t : not b ≡ false) (ex : x ≡ take (e .namelen) s) (a : Appended d n (recordFor (e .code) (e .hash) x) r l) where
@@ -80,19 +80,19 @@ module _ (d s : List ℕ) (n : ℕ) (e : Entry) (b : Bool) (h : n ≤ length d) 
     unfolding new
     news = appended-added d (recordIn s) l n r h (rw in-record at a)
 
-    chosen : takenOf (length d) (take n d) s ≡ pick (eqb (length new) (length (take n d))) (taken Full new) (taken (entryOf s .line) new)
-    unfolding takenOf addedBy new
+    chosen : addedLine (length d) (take n d) s ≡ pick (eqb (length new) (length (take n d))) (afterLine Full new) (afterLine (entryOf s .line) new)
+    unfolding addedLine addedBy new
     chosen = pick-false _ _ _ (gave-not _ _ _ told-account t)
 
-    pub take-full : r ≡ n → Makes (takenOf (length d) (take n d) s) Full r d l
+    pub take-full : r ≡ n → Makes (addedLine (length d) (take n d) s) Full r d l
     take-full z =
         let k : length new ≡ length (take n d) = sym (news .0) ∙ z ∙ sym (length-take-le n d h) in
         makes-by _ _ _ r d l (chosen ∙ pick-true _ _ _ (eq-eqb _ _ k)) (record { told = refl; count = news .0; written = news .1 })
 
-    pub take-more : (r ≡ n → ⊥) → Makes (takenOf (length d) (take n d) s) (e .line) r d l
+    pub take-more : (r ≡ n → ⊥) → Makes (addedLine (length d) (take n d) s) (e .line) r d l
     take-more z =
         let k : length new ≡ length (take n d) → ⊥ = λ y. z (news .0 ∙ y ∙ length-take-le n d h) in
-        makes-by _ _ _ r d l (chosen ∙ pick-false _ _ _ (ne-eqb _ _ k) ∙ ap (λ (y : Entry). taken (y .line) new) (sym ee)) (record { told = refl; count = news .0; written = news .1 })
+        makes-by _ _ _ r d l (chosen ∙ pick-false _ _ _ (ne-eqb _ _ k) ∙ ap (λ (y : Entry). afterLine (y .line) new) (sym ee)) (record { told = refl; count = news .0; written = news .1 })
 
 pub ruleset takes = (needs, take-none, take-full, take-more)
 
@@ -113,10 +113,10 @@ length-before : (s : List ℕ) → length (before 10 s) ≡ upto 10 s
 unfolding before
 length-before s = length-take-le (upto 10 s) s (upto-most 10 s)
 
-taken-least : (room : ℕ) (t s : List ℕ) → length t ≤ length (takenOf room t s .table)
-unfolding takenOf addedBy addedTo
-taken-least room t s =
-    let P : Taken → Type 0 = λ x. length t ≤ length (x .table) in
+added-least : (room : ℕ) (t s : List ℕ) → length t ≤ length (addedLine room t s .table)
+unfolding addedLine addedBy addedTo
+added-least room t s =
+    let P : AfterLine → Type 0 = λ x. length t ≤ length (x .table) in
     let a : length t ≤ length (addedTo room t (recordIn s)) = arms (λ (l : List ℕ). length t ≤ length l) _ (omega arith) (omega (arith, length-append t (recordIn s))) in
     arms P _ (omega arith) (arms P _ a a)
 
@@ -133,28 +133,28 @@ pub making-none : (text old : List ℕ) → length old ≤ 65536 → Making text
 making-none text old h = record { small = h; long = refl; inside = omega arith; kept = refl; few = omega arith; is = refl }
 
 -- what is told, from what the definition gives
-told-by : (text old dst : List ℕ) (o : Taken) (l : Line) (len k : ℕ) → length old ≤ 65536 → madeFrom (length old) 0 [] (linesOf text) ≡ result o k → Makes o l len old dst → Told text old dst l len k
+told-by : (text old dst : List ℕ) (o : AfterLine) (l : Line) (len k : ℕ) → length old ≤ 65536 → madeFrom (length old) 0 [] (linesOf text) ≡ result o k → Makes o l len old dst → MadeBy text old dst l len k
 unfolding madeOf
 told-by text old dst o l len k h e m =
     let w : madeOf (length old) text ≡ result o k = pick-false _ _ _ (le-ltb _ _ h) ∙ e in
-    record { makes = makes-by _ o l len old dst (ap (λ (x : Result). x .taken) w) m; count = sym (ap (λ (x : Result). x .lines) w) }
+    record { makes = makes-by _ o l len old dst (ap (λ (x : Result). x .last) w) m; count = sym (ap (λ (x : Result). x .lines) w) }
 
-pub told-long : (text old : List ℕ) → 65536 < length old → Told text old old Full 0 0
+pub told-long : (text old : List ℕ) → 65536 < length old → MadeBy text old old Full 0 0
 unfolding madeOf
 told-long text old h =
-    let w : madeOf (length old) text ≡ result (taken Full []) 0 = pick-true _ _ _ (lt-ltb _ _ h) in
-    record { makes = makes-by _ (taken Full []) Full 0 old old (ap (λ (x : Result). x .taken) w) (record { told = refl; count = refl; written = refl }); count = sym (ap (λ (x : Result). x .lines) w) }
+    let w : madeOf (length old) text ≡ result (afterLine Full []) 0 = pick-true _ _ _ (lt-ltb _ _ h) in
+    record { makes = makes-by _ (afterLine Full []) Full 0 old old (ap (λ (x : Result). x .last) w) (record { told = refl; count = refl; written = refl }); count = sym (ap (λ (x : Result). x .lines) w) }
 
-pub told-all : (text old dst : List ℕ) (lines len at : ℕ) → Making text old dst lines len at → length text ≤ at → Told text old dst Blank len lines
+pub told-all : (text old dst : List ℕ) (lines len at : ℕ) → Making text old dst lines len at → length text ≤ at → MadeBy text old dst Blank len lines
 unfolding linesOf madeFrom
 told-all text old dst lines len at p h =
-    told-by text old dst (taken Blank (take len dst)) Blank len lines (p .small) (p .is ∙ rw (drop-of-length-le text h)) (record { told = refl; count = sym (length-take-le len dst (p .inside)); written = p .kept })
+    told-by text old dst (afterLine Blank (take len dst)) Blank len lines (p .small) (p .is ∙ rw (drop-of-length-le text h)) (record { told = refl; count = sym (length-take-le len dst (p .inside)); written = p .kept })
 
-module _ (text old dst u s x dst′ : List ℕ) (lines len at n : ℕ) (l : Line) (b : Bool) (p : Making text old dst lines len at) (h : at < length text) (eu : u ≡ drop at text) (es : s ≡ before 10 u) (ex : x ≡ trimmed s) (m : Makes (takenOf (length dst) (take len dst) x) l n dst dst′) (eb : b ≡ isFault l) where
-  o : Taken
-  o = takenOf (length old) (take len dst) (trimmed s)
+module _ (text old dst u s x dst′ : List ℕ) (lines len at n : ℕ) (l : Line) (b : Bool) (p : Making text old dst lines len at) (h : at < length text) (eu : u ≡ drop at text) (es : s ≡ before 10 u) (ex : x ≡ trimmed s) (m : Makes (addedLine (length dst) (take len dst) x) l n dst dst′) (eb : b ≡ isFault l) where
+  o : AfterLine
+  o = addedLine (length old) (take len dst) (trimmed s)
 
-  same-turn : takenOf (length dst) (take len dst) x ≡ o
+  same-turn : addedLine (length dst) (take len dst) x ≡ o
   unfolding o
   same-turn = rw (p .long, ex)
 
@@ -178,10 +178,10 @@ module _ (text old dst u s x dst′ : List ℕ) (lines len at n : ℕ) (l : Line
   unfolding o
   grown =
       let f : length (take len dst) ≡ len = length-take-le len dst (p .inside) in
-      let g = taken-least (length old) (take len dst) (trimmed s) in
+      let g = added-least (length old) (take len dst) (trimmed s) in
       ap (λ (z : List ℕ). o .table ++ z) (ap (drop (length (o .table))) (p .kept) ∙ drop-over (take len dst) old (length (o .table)) g)
 
-  pub told-fault : b ≡ true → Told text old dst′ l n (lines + 1)
+  pub told-fault : b ≡ true → MadeBy text old dst′ l n (lines + 1)
   told-fault t =
       let f : isFault (o .line) ≡ true = ap isFault (sym (turned .told)) ∙ sym eb ∙ t in
       rw (add-one lines) (told-by text old dst′ o l n (suc lines) (p .small) (made-next ∙ pick-true _ _ _ f) (record { told = turned .told; count = size; written = turned .written ∙ grown }))

@@ -1,6 +1,6 @@
 -- What is made is well formed.
 use Prim.Native.Nat.{ℕ, suc, _+_, _*_, _/_, _%_, _≤_}
-use native.Mathlib.Nat.{div-add-mod'}
+use native.Mathlib.Nat.{div-add-mod', add-zero}
 use native.Mathlib.Omega.{arith}
 use mathlib.Core.Path.{_≡_, refl, sym, ap, _∙_}
 use mathlib.Core.List.{List, [], _∷_, _++_, append-nil, flatten}
@@ -13,29 +13,23 @@ use Rattle.octets.specs.Lists.{part}
 use Rattle.octets.specs.Octets.{same, numberAt}
 use Rattle.octets.proofs.Exits.{pick-true, arms, picked}
 use Rattle.octets.proofs.Lists.{length-cells}
-use Rattle.accounts.specs.Records.{kindOf, records, entry, placed, entries}
-use Rattle.accounts.specs.Accounts.{codeOf, nameOf, isCode, wellFormed, isAccountOf, accountIn, earlier, first, accountOf}
-use Rattle.accounts.specs.Table.{none, more, IsGood, moved}
-use Rattle.accounts.specs.declared.Lookup.{Lookup}
-use Rattle.accounts.specs.declared.Lookup.the-variants.{Absent, Account}
+use Rattle.accounts.specs.Records.{kindOf, records}
+use Rattle.accounts.specs.Accounts.{codeOf, recordName, isCode, wellFormed, isAccountOf, Placed, placed, firstFrom, accountOf, recordOf, absent, account, lookupOf}
+use Rattle.accounts.specs.Table.{none, more, IsGood}
 use Rattle.accounts.proofs.Tables.{so-table}
-use Rattle.accounts.proofs.Joined.{joined-formed, joined-searched, empty-formed}
+use Rattle.accounts.proofs.Joined.{further, joined-formed, joined-searched, empty-formed}
 use Rattle.password.specs.Hashed.{hashedOf}
 use Rattle.password.specs.declared.Spelling.{Spelling}
 use Rattle.password.specs.declared.Spelling.the-variants.{Good, NotUtf8, TooLong}
 use Rattle.password.proofs.Hashes.{length-hashed}
 use Rattle.roster.specs.Account.{accountHead, accountRecord, recordFor}
 use Rattle.roster.specs.Lines.{before, after, trimmed, hexSecret, spelt, secretOf, entryWith, entryOf}
-use Rattle.roster.specs.Made.{linesOf, addedTo, addedBy, recordIn, Taken, takenOf, Result, madeFrom, madeOf}
+use Rattle.roster.specs.Made.{linesOf, addedTo, addedBy, recordIn, AfterLine, addedLine, Result, madeFrom, madeOf}
 use Rattle.roster.specs.declared.Secret.{Secret}
 use Rattle.roster.specs.declared.Entry.{Entry}
 use Rattle.roster.proofs.Laws.{length-account}
 
 -- ---- a record
-earlier-none : (k : Lookup) → earlier k Absent ≡ k
-earlier-none Absent = refl
-earlier-none (Account code hash) = refl
-
 module _ (code : ℕ) (hash name : List ℕ) (eh : length hash ≡ 16) (en : length name ≤ 256) (ec : isCode code ≡ true) where
   account-good : IsGood (accountRecord code hash name)
   unfolding accountRecord numberAt
@@ -52,7 +46,7 @@ module _ (code : ℕ) (hash name : List ℕ) (eh : length hash ≡ 16) (en : len
   unfolding accountRecord numberAt
   kind-is = refl
 
-  name-is : nameOf (accountRecord code hash name) ≡ name
+  name-is : recordName (accountRecord code hash name) ≡ name
   unfolding accountRecord
   name-is = drop-at (accountHead (22 + length name) code ++ hash) name 22 (length-append (accountHead (22 + length name) code) hash ∙ omega arith)
 
@@ -67,16 +61,18 @@ module _ (code : ℕ) (hash name : List ℕ) (eh : length hash ≡ 16) (en : len
       let l : length q ≡ 22 + length name = length-account code hash name eh in
       so-table q (q ∷ []) (record { size = omega arith; joined = sym (append-nil q); good = more account-good none }) .0
 
+  is-account : (user : List ℕ) → isAccountOf user (accountRecord code hash name) ≡ same name user
+  unfolding isAccountOf
+  is-account user = rw (kind-is, name-is) (pick-true _ _ _ (eq-eqb 1 1 refl))
+
   -- a table of this record alone: it is the account of its name
-  account-found : (user : List ℕ) → accountOf (accountRecord code hash name) user ≡ pick (same name user) (Account code 6) Absent
-  unfolding flatten accountOf entries placed first accountIn isAccountOf
+  account-found : (user : List ℕ) → accountOf (accountRecord code hash name) user ≡ pick (same name user) (placed 0 (accountRecord code hash name)) (placed (0 + length (accountRecord code hash name)) [])
+  unfolding flatten accountOf firstFrom
   account-found user =
       let q : List ℕ = accountRecord code hash name in
       let l : length q ≡ 22 + length name = length-account code hash name eh in
       let r : records q ≡ q ∷ [] = so-table q (q ∷ []) (record { size = omega arith; joined = sym (append-nil q); good = more account-good none }) .1 in
-      ap (λ (rs : List (List ℕ)). first user (placed 0 rs)) r
-      ∙ earlier-none (accountIn user (entry 0 q))
-      ∙ rw (kind-is, name-is, code-is) (ap (λ (b : Bool). pick b (Account code 6) Absent) (pick-true _ _ _ (eq-eqb 1 1 refl)))
+      ap (firstFrom 0 user) r ∙ ap (λ (b : Bool). pick b (placed 0 q) (placed (0 + length q) [])) (is-account user)
 
 pub record-formed : (code : ℕ) (hash name : List ℕ) → length hash ≡ 16 → wellFormed (recordFor code hash name) ≡ true
 unfolding recordFor
@@ -111,38 +107,45 @@ length-entry s =
     let P : Entry → Type 0 = λ x. length (x .hash) ≡ 16 in
     arms P _ refl (arms P _ refl (arms P _ refl (arms P _ refl (arms P _ refl (arms P _ refl (length-secret (before 9 (after 9 s))))))))
 
-taken-formed : (room : ℕ) (t s : List ℕ) → room ≤ 65536 → wellFormed t ≡ true → wellFormed (takenOf room t s .table) ≡ true
-unfolding takenOf addedBy recordIn
-taken-formed room t s h w =
-    let P : Taken → Type 0 = λ x. wellFormed (x .table) ≡ true in
+line-formed : (room : ℕ) (t s : List ℕ) → room ≤ 65536 → wellFormed t ≡ true → wellFormed (addedLine room t s .table) ≡ true
+unfolding addedLine addedBy recordIn
+line-formed room t s h w =
+    let P : AfterLine → Type 0 = λ x. wellFormed (x .table) ≡ true in
     let q : wellFormed (recordIn s) ≡ true = record-formed (entryOf s .code) (entryOf s .hash) _ (length-entry s) in
     let a : wellFormed (addedTo room t (recordIn s)) ≡ true = added-formed room t (recordIn s) h w q in
     arms P _ w (arms P _ a a)
 
-from-formed : (room k : ℕ) (t : List ℕ) (ls : List (List ℕ)) → room ≤ 65536 → wellFormed t ≡ true → wellFormed (madeFrom room k t ls .taken .table) ≡ true
+from-formed : (room k : ℕ) (t : List ℕ) (ls : List (List ℕ)) → room ≤ 65536 → wellFormed t ≡ true → wellFormed (madeFrom room k t ls .last .table) ≡ true
 unfolding madeFrom
 from-formed room k t [] h w = w
 from-formed room k t (l ∷ ls) h w =
-    let v : wellFormed (takenOf room t (trimmed l) .table) ≡ true = taken-formed room t (trimmed l) h w in
-    arms (λ (x : Result). wellFormed (x .taken .table) ≡ true) _ v (from-formed room (suc k) _ ls h v)
+    let v : wellFormed (addedLine room t (trimmed l) .table) ≡ true = line-formed room t (trimmed l) h w in
+    arms (λ (x : Result). wellFormed (x .last .table) ≡ true) _ v (from-formed room (suc k) _ ls h v)
 
 -- whatever the text, the table that is made of it is well formed
-pub made-formed : (room : ℕ) (text : List ℕ) → wellFormed (madeOf room text .taken .table) ≡ true
+pub made-formed : (room : ℕ) (text : List ℕ) → wellFormed (madeOf room text .last .table) ≡ true
 unfolding madeOf
 made-formed room text =
-    picked (λ (x : Result). wellFormed (x .taken .table) ≡ true) _ (λ _. empty-formed) (λ e. from-formed room 0 [] (linesOf text) (ltb-false _ _ e) empty-formed)
+    picked (λ (x : Result). wellFormed (x .last .table) ≡ true) _ (λ _. empty-formed) (λ e. from-formed room 0 [] (linesOf text) (ltb-false _ _ e) empty-formed)
 
 -- ---- what is found in a table with an account more: what was found before it, or else this account under its name
-pub added-found : (t : List ℕ) (code : ℕ) (hash name user : List ℕ) → wellFormed t ≡ true → length hash ≡ 16 → length name ≤ 256 → isCode code ≡ true → accountOf (t ++ accountRecord code hash name) user ≡ earlier (accountOf t user) (pick (same name user) (Account code (length t + 6)) Absent)
-unfolding pick
+pub added-found : (t : List ℕ) (code : ℕ) (hash name user : List ℕ) → wellFormed t ≡ true → length hash ≡ 16 → length name ≤ 256 → isCode code ≡ true
+    → lookupOf user (accountOf (t ++ accountRecord code hash name) user)
+    ≡ pick (isAccountOf user (recordOf t user)) (lookupOf user (accountOf t user)) (pick (same name user) (account code (length t + 6)) absent)
+unfolding lookupOf isAccountOf numberAt pick
 added-found t code hash name user w eh en ec =
-    joined-searched t (accountRecord code hash name) user w
-    ∙ ap (λ (k : Lookup). earlier (accountOf t user) (moved (length t) k)) (account-found code hash name eh en ec user)
-    ∙ ap (earlier (accountOf t user)) (go (same name user))
+    ap (lookupOf user) (joined-searched t q user w ∙ ap (λ (e : Placed). pick (isAccountOf user (recordOf t user)) (accountOf t user) (further (length t) e)) (account-found code hash name eh en ec user))
+    ∙ go (isAccountOf user (recordOf t user)) (same name user) refl
   where
-    go : (b : Bool) → moved (length t) (pick b (Account code 6) Absent) ≡ pick b (Account code (length t + 6)) Absent
-    go true = refl
-    go false = refl
+    q : List ℕ
+    q = accountRecord code hash name
+
+    go : (a b : Bool) → same name user ≡ b
+        → lookupOf user (pick a (accountOf t user) (further (length t) (pick b (placed 0 q) (placed (0 + length q) []))))
+        ≡ pick a (lookupOf user (accountOf t user)) (pick b (account code (length t + 6)) absent)
+    go true b e = refl
+    go false true e = pick-true _ _ _ (is-account code hash name eh en ec user ∙ e) ∙ rw (code-is code hash name eh en ec, add-zero (length t))
+    go false false e = refl
 
 -- and its hash stands there
 pub added-hash : (t : List ℕ) (code : ℕ) (hash name : List ℕ) → length hash ≡ 16 → part (t ++ accountRecord code hash name) (length t + 6) 16 ≡ hash

@@ -21,6 +21,6 @@ unfoldable pub recordFor : ℕ → List ℕ → List ℕ → List ℕ
 recordFor code hash name = pick (not (isCode code)) [] (pick (ltb 256 (length name)) [] (accountRecord code hash name))
 
 -- the first n octets of a list are q
-pub record Holds (q octets : List ℕ) (n : ℕ) : Type 0 where
+pub record StartsWith (q octets : List ℕ) (n : ℕ) : Type 0 where
   pub count : n ≡ length q
   pub front : take n octets ≡ q

@@ -47,56 +47,56 @@ isFault LongPassword = true
 isFault Full = true
 
 -- what a line is, and the table after it
-pub record Taken : Type 0 where
+pub record AfterLine : Type 0 where
   pub line : Line
   pub table : List ℕ
 
-abbrev pub taken : Line → List ℕ → Taken
-taken l t = record { line = l; table = t }
+abbrev pub afterLine : Line → List ℕ → AfterLine
+afterLine l t = record { line = l; table = t }
 
 -- the table t with the record q at its end, where both fit the room
 unfoldable pub addedTo : ℕ → List ℕ → List ℕ → List ℕ
 addedTo room t q = pick (ltb room (length t + length q)) t (t ++ q)
 
 -- a record that adds nothing did not fit
-unfoldable pub addedBy : Line → ℕ → List ℕ → List ℕ → Taken
+unfoldable pub addedBy : Line → ℕ → List ℕ → List ℕ → AfterLine
 addedBy l room t q =
-    pick (not (isAccount l)) (taken l t)
-    (pick (eqb (length (addedTo room t q)) (length t)) (taken Full (addedTo room t q))
-    (taken l (addedTo room t q)))
+    pick (not (isAccount l)) (afterLine l t)
+    (pick (eqb (length (addedTo room t q)) (length t)) (afterLine Full (addedTo room t q))
+    (afterLine l (addedTo room t q)))
 
 -- the line's record: the name is its first octets
 unfoldable pub recordIn : List ℕ → List ℕ
 recordIn s = recordFor (entryOf s .code) (entryOf s .hash) (take (entryOf s .namelen) s)
 
-unfoldable pub takenOf : ℕ → List ℕ → List ℕ → Taken
-takenOf room t s = addedBy (entryOf s .line) room t (recordIn s)
+unfoldable pub addedLine : ℕ → List ℕ → List ℕ → AfterLine
+addedLine room t s = addedBy (entryOf s .line) room t (recordIn s)
 
 -- ---- what all lines make: up to the first that is wrong
 pub record Result : Type 0 where
-  pub taken : Taken
+  pub last : AfterLine
   pub lines : ℕ
 
-abbrev pub result : Taken → ℕ → Result
-result r k = record { taken = r; lines = k }
+abbrev pub result : AfterLine → ℕ → Result
+result r k = record { last = r; lines = k }
 
 -- k lines made the table t, and the lines ls are to come
 unfoldable pub madeFrom : ℕ → ℕ → List ℕ → List (List ℕ) → Result
-madeFrom room k t [] = result (taken Blank t) k
+madeFrom room k t [] = result (afterLine Blank t) k
 madeFrom room k t (l ∷ ls) =
-    pick (isFault (takenOf room t (trimmed l) .line)) (result (takenOf room t (trimmed l)) (suc k))
-    (madeFrom room (suc k) (takenOf room t (trimmed l) .table) ls)
+    pick (isFault (addedLine room t (trimmed l) .line)) (result (addedLine room t (trimmed l)) (suc k))
+    (madeFrom room (suc k) (addedLine room t (trimmed l) .table) ls)
 
 unfoldable pub madeOf : ℕ → List ℕ → Result
-madeOf room text = pick (ltb 65536 room) (result (taken Full []) 0) (madeFrom room 0 [] (linesOf text))
+madeOf room text = pick (ltb 65536 room) (result (afterLine Full []) 0) (madeFrom room 0 [] (linesOf text))
 
 -- the table stands at the front of the buffer, and the rest of it is as before
-pub record Makes (o : Taken) (l : Line) (n : ℕ) (before after : List ℕ) : Type 0 where
+pub record Makes (o : AfterLine) (l : Line) (n : ℕ) (before after : List ℕ) : Type 0 where
   pub told : l ≡ o .line
   pub count : n ≡ length (o .table)
   pub written : after ≡ over (o .table) before
 
 -- what is told of a text: how it ended, how long the table is, how many lines were read
-pub record Told (text before after : List ℕ) (ended : Line) (len lines : ℕ) : Type 0 where
-  pub makes : Makes (madeOf (length before) text .taken) ended len before after
+pub record MadeBy (text before after : List ℕ) (ended : Line) (len lines : ℕ) : Type 0 where
+  pub makes : Makes (madeOf (length before) text .last) ended len before after
   pub count : lines ≡ madeOf (length before) text .lines

@@ -4,9 +4,9 @@ ghost use Prim.Native.Nat.{_+_, _≤_};
 ghost use lib.ListN.{length, take, drop};
 ghost use Rattle.octets.specs.Lists.{cells, over, Appended};
 ghost use Rattle.octets.specs.Octets.{unhexAt};
-ghost use Rattle.roster.specs.Account.{accountHead, accountRecord, recordFor, Holds};
+ghost use Rattle.roster.specs.Account.{accountHead, accountRecord, recordFor, StartsWith};
 ghost use Rattle.roster.specs.Lines.{upto, before, after, has, trimmed, hexSecret, spelt, secretOf, codeIn, codeAfter, noEntry, entryWith, entryOf};
-ghost use Rattle.roster.specs.Made.{isAccount, isFault, takenOf, Makes, Told};
+ghost use Rattle.roster.specs.Made.{isAccount, isFault, addedLine, Makes, MadeBy};
 use password::Spelling;
 
 // What a line is: blank, an account, or what is wrong with it. Full: its record no longer fits the table.
@@ -44,7 +44,7 @@ struct Record {
 }
 
 // What was made of a line: how long the table is after it.
-struct Taken {
+struct AfterLine {
     line: Line,
     len: usize,
 }
@@ -86,7 +86,7 @@ fn lay(dst: &mut [u8], code: u16, hash: [u8; 16], name: &[u8])
 
 fn record_of(code: u16, hash: [u8; 16], name: &[u8]) -> Record
     requires { ⌜ length (now name) ≤ 256 ⌝ }
-    ensures { λ r. ⌜ Holds (accountRecord code hash (now (name .entry))) (r .octets) (r .len) ⌝ }
+    ensures { λ r. ⌜ StartsWith (accountRecord code hash (now (name .entry))) (r .octets) (r .len) ⌝ }
 {
     let mut octets = [0u8; 278];
     lay(&mut octets, code, hash, name);
@@ -97,7 +97,7 @@ fn record_of(code: u16, hash: [u8; 16], name: &[u8]) -> Record
 }
 
 fn record_for(code: u16, hash: [u8; 16], name: &[u8]) -> Record
-    ensures { λ r. ⌜ Holds (recordFor code hash (now (name .entry))) (r .octets) (r .len) ⌝ }
+    ensures { λ r. ⌜ StartsWith (recordFor code hash (now (name .entry))) (r .octets) (r .len) ⌝ }
 {
     if !accounts::is_code(code) {
         return Record {
@@ -362,29 +362,29 @@ pub fn is_fault(line: Line) -> bool
 // ---- a table
 
 // A line's record at the end of a table of n octets.
-fn take_line(table: &mut [u8], n: usize, s: &[u8]) -> Taken
+fn take_line(table: &mut [u8], n: usize, s: &[u8]) -> AfterLine
     requires { ⌜ n ≤ length (now table) ⌝ }
-    ensures { λ r. ⌜ Makes (takenOf (length (now (table .entry))) (take n (now (table .entry))) (now (s .entry))) (r .line) (r .len) (now (table .entry)) (now (table .exit)) ⌝ }
+    ensures { λ r. ⌜ Makes (addedLine (length (now (table .entry))) (take n (now (table .entry))) (now (s .entry))) (r .line) (r .len) (now (table .entry)) (now (table .exit)) ⌝ }
 {
     let e = entry_of(s);
     let line = e.line;
     if !is_account(line) {
-        return Taken { line, len: n };
+        return AfterLine { line, len: n };
     }
     let hash = e.hash;
     let next = append_account(table, n, e.code, hash, octets::part(s, 0, e.namelen));
     if next == n {
-        return Taken {
+        return AfterLine {
             line: Line::Full,
             len: next,
         };
     }
-    Taken { line, len: next }
+    AfterLine { line, len: next }
 }
 
 // The table that a text's lines make, at the front of a buffer of at most 65,536 octets.
 pub fn make(table: &mut [u8], text: &[u8]) -> Made
-    ensures { λ r. ⌜ Told (now (text .entry)) (now (table .entry)) (now (table .exit)) (r .ended) (r .len) (r .lines) ⌝ }
+    ensures { λ r. ⌜ MadeBy (now (text .entry)) (now (table .entry)) (now (table .exit)) (r .ended) (r .len) (r .lines) ⌝ }
 {
     if 65536 < table.len() {
         return Made {

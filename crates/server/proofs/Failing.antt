@@ -1,135 +1,108 @@
 -- Where no Response is judged right, each fresh challenge differs from the outstanding one and there is room, the server reaches FAILED after the
 -- retries and a Failure Response.
-use Prim.Native.Nat.{ℕ, _+_, _-_, _≤_}
+use Prim.Native.Nat.{ℕ, _+_, _≤_}
 use mathlib.Core.Path.{_≡_, refl, sym, ap, _∙_}
-use mathlib.Core.Bool.{Bool, true, false}
-use mathlib.Core.List.{List, [], _∷_}
+use mathlib.Core.Bool.{true}
+use mathlib.Core.List.{List, [], _∷_, map}
 use native.Mathlib.Omega.{arith}
 use lib.ListN.{length}
 use borrow.Author.Tests.{eq-eqb, ne-eqb}
-use Rattle.octets.specs.Octets.{same}
 use Rattle.octets.proofs.Exits.{pick-true, pick-false}
-use Rattle.octets.proofs.Scans.{same-true}
-use Rattle.answer.specs.Outcome.{gives, Outcome, outcome}
+use Rattle.answer.specs.Outcome.{Outcome, outcome}
+use Rattle.answer.specs.Runs.{after}
 use Rattle.answer.specs.declared.Identifier.{Identifier}
-use Rattle.answer.proofs.Outcomes.{fitting-so}
-use Rattle.packet.specs.declared.End.the-variants as end
-use Rattle.packet.specs.declared.Kind.the-variants.{FailureResponse}
 use Rattle.packet.specs.declared.Packet.{Packet}
-use Rattle.packet.specs.Forms.{challengePacket, failureRequest, failureResponse, eapFailure}
+use Rattle.packet.specs.Forms.{failureResponse, eapFailure}
 use Rattle.packet.proofs.Back.{failure-response-back}
-use Rattle.packet.proofs.Sizes.{length-failureRequest-60}
-use Rattle.packet.specs.Reader.{readPacket, reading, nowhere}
 use Rattle.verdict.specs.declared.Verdict.{Verdict}
+use Rattle.verdict.specs.Verdict.{wrong}
+use Rattle.server.specs.declared.Due.{Due}
+use Rattle.server.specs.declared.Due.the-variants as due
+use Rattle.server.specs.declared.Failure.{Failure}
 use Rattle.server.specs.declared.Server.{Server}
-use Rattle.server.specs.declared.Stage.{Stage}
 use Rattle.server.specs.declared.Stage.the-variants.{ChallengeSent, FailureRequestSent, Failed}
-use Rattle.server.specs.State.{nextId, chapOf, fresh, asked, staged}
-use Rattle.server.specs.Moves.{Turn, judges, turnOf}
-use Rattle.server.specs.Calls.{asks, startFits, rejectOf, failOf, wrongOf, actBy, actOf, judgedOf, takeTurn, packetOf}
-use Rattle.server.specs.Guess.{Side, Call, starts, brings, answered, serverStep, stateAfter, NotRight}
+use Rattle.server.specs.State.{challengeTo, initial, asked, staged}
+use Rattle.server.specs.Moves.{Taken}
+use Rattle.server.specs.Calls.{failing, startFits, authenticationFailure, retryable, final, dueOf, actOf, judgedBy, takenBy}
+use Rattle.server.specs.Runs.{Call, starts, brings, answered, left, serverStep}
+use Rattle.server.specs.Guess.{NotRight}
 use Rattle.server.proofs.WrongGuess.{verdict-wrong}
-use Rattle.server.proofs.Forward.{starts-so, ends-so, ended}
+use Rattle.server.proofs.Forward.{starts-so, ends-so, fail-so, taken-by, ended-so}
 
--- a packet with the tables, the fresh challenge and the buffer that come with it
+-- a packet with the table, the fresh challenge and the buffer that come with it
 pub record Try : Type 0 where
   pub packet : List ℕ
-  pub tables : Side → List ℕ
+  pub table : List ℕ
   pub fresh : List ℕ
   pub reply : List ℕ
 
-abbrev pub callOf : Try → Call
-callOf g = brings (g .packet) (g .tables) (g .fresh) (g .reply)
+abbrev pub callOf : Try → Call (List ℕ)
+callOf g = brings (g .packet) (g .table) (g .fresh) (g .reply)
 
 -- it is a Response that is judged and not right, the fresh challenge differs from the outstanding one, and there is room for a Failure Request
-pub record WrongTry (x : Side) (s : Server) (g : Try) : Type 0 where
+pub record WrongTry (s : Server) (g : Try) : Type 0 where
   pub response : Packet
-  pub taken : turnOf s (g .packet) ≡ judges response
-  pub unright : NotRight x s (callOf g)
-  pub differs : g .fresh ≡ s .challenge → ⊥
+  pub taken : Taken s (g .packet) ChallengeSent response
+  pub unright : NotRight s (callOf g)
+  pub differs : g .fresh ≡ s .request .challenge → ⊥
   pub room : 60 ≤ length (g .reply)
 
-abbrev pub callsOf : List Try → List Call
-callsOf [] = []
-callsOf (g ∷ gs) = callOf g ∷ callsOf gs
+abbrev pub WrongTries : Server → List Try → Type 0
+WrongTries s [] = Unit {0}
+WrongTries s (g ∷ gs) = WrongTry s g × WrongTries (left (serverStep s (callOf g))) gs
 
-abbrev pub WrongTries : Side → Server → List Try → Type 0
-WrongTries x s [] = Unit {0}
-WrongTries x s (g ∷ gs) = WrongTry x s g × WrongTries x (serverStep x s (callOf g) .state) gs
-
--- the state after a Failure Request with code 691 that there is room for
-abbrev rejected : Server → Stage → ℕ → ℕ → List ℕ → Server
-rejected s stage retries retry fresh =
-    asked stage (nextId (s .id)) fresh retries (failureRequest (nextId (s .id) .0) (chapOf (nextId (s .id)) .0) 691 retry fresh [])
-
-fail-state : (s : Server) (stage : Stage) (retries retry : ℕ) (fresh : List ℕ) (room : ℕ) → (fresh ≡ s .challenge → ⊥) → 60 ≤ room
-    → failOf s stage retries 691 retry fresh room .state ≡ rejected s stage retries retry fresh
-unfolding failOf rejectOf asks
-fail-state s stage retries retry fresh room d r =
-    let l : length (failureRequest (nextId (s .id) .0) (chapOf (nextId (s .id)) .0) 691 retry fresh []) ≤ room = rw (length-failureRequest-60 _ _ 691 retry fresh (omega arith) (omega arith)) r in
-    ap (λ (o : Outcome Server). o .state) (pick-false _ _ _ (other (same fresh (s .challenge)) refl) ∙ fitting-so room s _ l)
-  where
-    other : (b : Bool) → same fresh (s .challenge) ≡ b → same fresh (s .challenge) ≡ false
-    other true e = absurd (d (same-true fresh (s .challenge) e))
-    other false e = e
-
-module _ (x : Side) (s : Server) (g : Try) (w : WrongTry x s g) where
-  tried : serverStep x s (callOf g) .state ≡ wrongOf s (g .fresh) (length (g .reply)) .state
-  unfolding serverStep packetOf takeTurn judgedOf actOf actBy
-  tried =
-      ap (λ (u : Turn). takeTurn u s (g .packet) (g .tables x) (g .fresh) (length (g .reply)) .state) (w .taken)
-      ∙ ap (λ (v : Verdict). actOf v s (g .fresh) (length (g .reply)) .state)
-      (verdict-wrong x s (g .packet) (g .tables) (g .fresh) (g .reply) (w .response) (w .taken) (w .unright))
+module _ (s : Server) (g : Try) (w : WrongTry s g) where
+  -- the Failure Request f is due
+  tried : (f : Failure) → dueOf (wrong .mark) (wrong .code) s ≡ due.Failure f → f .error ≡ authenticationFailure → left (serverStep s (callOf g)) ≡ failing s f (g .fresh) .state
+  unfolding serverStep takenBy judgedBy actOf
+  tried f e n =
+      ap (λ (o : Outcome Server). o .state)
+      (taken-by s (g .packet) (g .table) (g .fresh) (length (g .reply)) (w .response) ChallengeSent (w .taken)
+      ∙ ap (λ (v : Verdict). judgedBy v s (g .fresh) (length (g .reply))) (verdict-wrong s (g .packet) (g .table) (g .fresh) (g .reply) (w .response) (w .taken) (w .unright))
+      ∙ ap (λ (d : Due). actOf d s (wrong .string) (g .fresh) (length (g .reply))) e
+      ∙ fail-so f s (g .fresh) (length (g .reply)) (w .differs) (omega arith) (omega arith) (w .room))
 
   -- no retries are left
-  last-try : s .retries ≡ 0 → serverStep x s (callOf g) .state ≡ rejected s FailureRequestSent (s .retries) 0 (g .fresh)
-  unfolding wrongOf
-  last-try z =
-      tried
-      ∙ ap (λ (o : Outcome Server). o .state) (pick-true _ _ _ (eq-eqb (s .retries) 0 z))
-      ∙ fail-state s FailureRequestSent (s .retries) 0 (g .fresh) (length (g .reply)) (w .differs) (w .room)
+  last-try : s .retries ≡ 0 → left (serverStep s (callOf g)) ≡ failing s (final s authenticationFailure) (g .fresh) .state
+  unfolding dueOf
+  last-try z = tried (final s authenticationFailure) (pick-true _ _ _ (eq-eqb (s .retries) 0 z)) refl
 
   -- one retry fewer, and the stage is kept
-  more-tries : (s .retries ≡ 0 → ⊥) → serverStep x s (callOf g) .state ≡ rejected s (s .stage) (s .retries - 1) 1 (g .fresh)
-  unfolding wrongOf
-  more-tries z =
-      tried
-      ∙ ap (λ (o : Outcome Server). o .state) (pick-false _ _ _ (ne-eqb (s .retries) 0 z))
-      ∙ fail-state s (s .stage) (s .retries - 1) 1 (g .fresh) (length (g .reply)) (w .differs) (w .room)
+  more-tries : (s .retries ≡ 0 → ⊥) → left (serverStep s (callOf g)) ≡ failing s (retryable s) (g .fresh) .state
+  unfolding dueOf
+  more-tries z = tried (retryable s) (pick-false _ _ _ (ne-eqb (s .retries) 0 z)) refl
 
 -- as many wrong tries as there are retries, and one more
-pub exhausted : (x : Side) (s : Server) (gs : List Try) → s .stage ≡ ChallengeSent → length gs ≡ s .retries + 1 → WrongTries x s gs → stateAfter serverStep x s (callsOf gs) .stage ≡ FailureRequestSent
-unfolding stateAfter asked
-exhausted x s [] e l w = absurd (omega arith)
-exhausted x s (g ∷ []) e l w = ap (λ (r : Server). r .stage) (last-try x s g (w .0) (omega arith))
-exhausted x s (g ∷ (h ∷ gs)) e l w =
-    let m = more-tries x s g (w .0) (λ z. absurd (omega arith)) in
-    exhausted x (serverStep x s (callOf g) .state) (h ∷ gs) (ap (λ (r : Server). r .stage) m ∙ e) (rw m (omega arith)) (w .1)
+pub exhausted : (s : Server) (gs : List Try) → s .stage ≡ ChallengeSent → length gs ≡ s .retries + 1 → WrongTries s gs → after left serverStep s (map callOf gs) .stage ≡ FailureRequestSent
+unfolding after asked
+exhausted s [] e l w = absurd (omega arith)
+exhausted s (g ∷ []) e l w = ap (λ (r : Server). r .stage) (last-try s g (w .0) (omega arith))
+exhausted s (g ∷ (h ∷ gs)) e l w =
+    let m = more-tries s g (w .0) (λ z. absurd (omega arith)) in
+    exhausted (left (serverStep s (callOf g))) (h ∷ gs) (ap (λ (r : Server). r .stage) m ∙ e) (rw m (omega arith)) (w .1)
 
 -- a Failure Response under the outstanding Identifier
-read-end : (i : ℕ) → readPacket end.Server (failureResponse i) ≡ gives (reading FailureResponse i 0 6 0 nowhere nowhere nowhere)
-read-end i = failure-response-back i .reads []
-
-pub ends-failed : (x : Side) (s : Server) (tables : Side → List ℕ) (fresh reply : List ℕ) → s .stage ≡ FailureRequestSent → 4 ≤ length reply
-    → serverStep x s (brings (failureResponse (s .id .0)) tables fresh reply) ≡ answered (outcome 3 (eapFailure (s .id .0)) (staged Failed s)) reply
+pub ends-failed : (s : Server) (table fresh reply : List ℕ) → s .stage ≡ FailureRequestSent → 4 ≤ length reply
+    → serverStep s (brings (failureResponse (s .request .id .0)) table fresh reply) ≡ answered (outcome 3 (eapFailure (s .request .id .0)) (staged Failed s)) reply
 unfolding serverStep
-ends-failed x s tables fresh reply e r =
+ends-failed s table fresh reply e r =
     ap (λ (o : Outcome Server). answered o reply)
-    (ended s (failureResponse (s .id .0)) (tables x) fresh (length reply) _ (ends-so s (failureResponse (s .id .0)) _ (read-end (s .id .0)) refl e refl) r)
+    (ended-so s (failureResponse (s .request .id .0)) table fresh (length reply) _
+    (ends-so s (failureResponse (s .request .id .0)) _ (failure-response-back (s .request .id .0) .reads []) refl e refl) r)
 
--- ---- from a fresh server: a start, as many wrong tries as its retry count and one more, and a Failure Response under the outstanding Identifier
-module _ (x : Side) (id : Identifier) (challenge name : List ℕ) (retries : ℕ) (reply : List ℕ) (sixteen : length challenge ≡ 16) (args : startFits (length name) retries ≡ true) (room : 26 + length name ≤ length reply) where
-  abbrev pub start : Call
+-- ---- from a new server: a start, as many wrong tries as its retry count and one more, and a Failure Response under the outstanding Identifier
+module _ (id : Identifier) (challenge name : List ℕ) (retries : ℕ) (reply : List ℕ) (sixteen : length challenge ≡ 16) (args : startFits (length name) retries ≡ true) (room : 26 + length name ≤ length reply) where
+  abbrev pub start : Call (List ℕ)
   start = starts id challenge name retries reply
 
-  started : serverStep x fresh start .state ≡ asked ChallengeSent id challenge retries (challengePacket (id .0) (chapOf id .0) challenge name)
-  unfolding serverStep fresh
-  started = ap (λ (o : Outcome Server). o .state) (starts-so fresh id challenge name retries (length reply) refl sixteen args room)
+  started : left (serverStep initial start) ≡ asked ChallengeSent id challenge retries (challengeTo id challenge name) initial
+  unfolding serverStep initial
+  started = ap (λ (o : Outcome Server). o .state) (starts-so initial id challenge name retries (length reply) refl sixteen args room)
 
-  pub fails : (gs : List Try) → length gs ≡ retries + 1 → WrongTries x (serverStep x fresh start .state) gs → (tables : Side → List ℕ) (random buffer : List ℕ) → 4 ≤ length buffer
-      → let s = stateAfter serverStep x fresh (start ∷ callsOf gs) in
-      serverStep x s (brings (failureResponse (s .id .0)) tables random buffer) ≡ answered (outcome 3 (eapFailure (s .id .0)) (staged Failed s)) buffer
-  unfolding stateAfter asked
-  fails gs l w tables random buffer r =
-      ends-failed x _ tables random buffer
-      (exhausted x (serverStep x fresh start .state) gs (ap (λ (s : Server). s .stage) started) (l ∙ ap (λ (s : Server). s .retries + 1) (sym started)) w) r
+  pub fails : (gs : List Try) → length gs ≡ retries + 1 → WrongTries (left (serverStep initial start)) gs → (table fresh buffer : List ℕ) → 4 ≤ length buffer
+      → let s = after left serverStep initial (start ∷ map callOf gs) in
+      serverStep s (brings (failureResponse (s .request .id .0)) table fresh buffer) ≡ answered (outcome 3 (eapFailure (s .request .id .0)) (staged Failed s)) buffer
+  unfolding after asked
+  fails gs l w table fresh buffer r =
+      ends-failed _ table fresh buffer
+      (exhausted (left (serverStep initial start)) gs (ap (λ (s : Server). s .stage) started) (l ∙ ap (λ (s : Server). s .retries + 1) (sym started)) w) r

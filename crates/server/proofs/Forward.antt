@@ -1,88 +1,84 @@
 -- What a call does where its premises are given: for whoever follows a login call by call.
 use Prim.Native.Nat.{ℕ, _+_, _≤_}
-use mathlib.Core.Path.{_≡_, ap, _∙_}
-use mathlib.Core.Bool.{Bool, true, not}
-use mathlib.Core.List.{List, []}
+use mathlib.Core.Path.{_≡_, refl, sym, ap, _∙_}
+use mathlib.Core.Bool.{true, false, not}
+use mathlib.Core.List.{List}
 use lib.ListN.{length}
 use lib.Dec.{eqb}
 use borrow.Author.Tests.{eq-eqb}
 use Rattle.octets.specs.Choice.{pick}
-use Rattle.octets.proofs.Exits.{pick-false}
-use Rattle.answer.specs.Outcome.{Told, gives, outcome}
+use Rattle.octets.specs.Octets.{same}
+use Rattle.octets.proofs.Exits.{pick-true, pick-false, or-none, and-first, and-second, tested, clash}
+use Rattle.octets.proofs.Scans.{same-true}
+use Rattle.answer.specs.Outcome.{Told, gives, told, refused}
 use Rattle.answer.specs.declared.Identifier.{Identifier}
 use Rattle.answer.proofs.Outcomes.{fitting-so}
 use Rattle.packet.specs.declared.End.the-variants as end
-use Rattle.packet.specs.declared.Kind.{Kind}
 use Rattle.packet.specs.declared.Kind.the-variants.{Response, SuccessResponse, FailureResponse}
 use Rattle.packet.specs.declared.Packet.{Packet}
-use Rattle.packet.specs.Forms.{challengePacket, successRequest, eapSuccess, eapFailure}
-use Rattle.packet.specs.Reader.{readPacket}
-use Rattle.accounts.specs.Accounts.{wellFormed}
-use Rattle.mschap.specs.Users.{userOf}
-use Rattle.mschap.specs.Responses.{authenticatorOf}
-use Rattle.verdict.specs.declared.Verdict.{Verdict}
-use Rattle.verdict.specs.Verdict.{hashAt, judgeOf}
-use Rattle.verdict.proofs.Rightness.{judge-right}
-use Rattle.packet.proofs.Sizes.{length-challengePacket, length-successRequest}
+use Rattle.packet.specs.Kinds.{isKind}
+use Rattle.packet.specs.Reader.{noPacket, readPacket}
+use Rattle.packet.proofs.Sizes.{length-challengePacket, length-failureRequest-60}
+use Rattle.server.specs.declared.Failure.{Failure}
 use Rattle.server.specs.declared.Stage.{Stage}
-use Rattle.server.specs.declared.Stage.the-variants.{Begin, ChallengeSent, SuccessRequestSent, FailureRequestSent, Success, Failed}
+use Rattle.server.specs.declared.Stage.the-variants.{Begin, ChallengeSent, SuccessRequestSent, FailureRequestSent}
 use Rattle.server.specs.declared.Server.{Server}
-use Rattle.server.specs.State.{nextId, chapOf, staged}
-use Rattle.server.specs.Moves.{begins, moveOf, Turn, refusedBy, judges, confirms, ends, turnBy, turnAt, turnRead, turnOf}
-use Rattle.server.specs.Calls.{asks, startFits, startOf, succeedOf, rightOf, actBy, actOf, peerChallengeOf, ntResponseOf, nameOf, verdictOf, judgedOf, confirmOf, endOf, takeTurn, packetOf}
-use Rattle.server.specs.Guess.{RightAt}
-use Rattle.server.specs.Effects.{asking}
+use Rattle.server.specs.State.{nextId, chapOf, challengeTo, retryDigit, failureTo}
+use Rattle.server.specs.Moves.{begins, takes, misnumbered, turnRefusal, turnOf, Taken}
+use Rattle.server.specs.Calls.{asking, failing, authenticated, ended, startFits, startOf, failOf, takenBy, packetOf}
+use Rattle.server.proofs.Laws.{check-taken}
 
 -- a start in BEGIN
 pub starts-so : (s : Server) (id : Identifier) (challenge name : List ℕ) (retries room : ℕ) → s .stage ≡ Begin → length challenge ≡ 16 → startFits (length name) retries ≡ true → 26 + length name ≤ room
-    → startOf s id challenge name retries room ≡ asking ChallengeSent id challenge retries (challengePacket (id .0) (chapOf id .0) challenge name)
-unfolding startOf asks
+    → startOf s id challenge name retries room ≡ asking s ChallengeSent id challenge retries (challengeTo id challenge name)
+unfolding startOf
 starts-so s id challenge name retries room g c f r =
-    let l : length (challengePacket (id .0) (chapOf id .0) challenge name) ≤ room = rw (length-challengePacket (id .0) (chapOf id .0) challenge name c) r in
+    let l : length (challengeTo id challenge name) ≤ room = rw (length-challengePacket (id .0) (chapOf id .0) challenge name c) r in
     pick-false _ _ _ (ap (λ (h : Stage). not (begins h)) g) ∙ pick-false _ _ _ (ap not f) ∙ fitting-so room s _ l
 
--- ---- the turn of a packet that was read, under the outstanding Identifier
-module _ (s : Server) (p : List ℕ) (k : Packet) (read : readPacket end.Server p ≡ gives k) (id : k .id .0 ≡ s .id .0) where
-  turned : (g : Stage) → s .stage ≡ g → (kind : Kind) → k .kind ≡ kind → turnOf s p ≡ turnBy (moveOf g kind) true (eqb (k .chapid .0) (s .chapid .0)) k
-  unfolding turnOf turnRead turnAt pick
-  turned g e kind f =
-      ap (λ (t : Told Packet). turnRead t s) read
-      ∙ ap (λ (b : Bool). turnBy (moveOf (s .stage) (k .kind)) b (eqb (k .chapid .0) (s .chapid .0)) k) (eq-eqb _ _ id)
-      ∙ ap (λ (h : Stage). turnBy (moveOf h (k .kind)) true (eqb (k .chapid .0) (s .chapid .0)) k) e
-      ∙ ap (λ (h : Kind). turnBy (moveOf g h) true (eqb (k .chapid .0) (s .chapid .0)) k) f
+-- ---- a packet that was read, under the outstanding Identifier
+module _ (s : Server) (p : List ℕ) (k : Packet) (read : readPacket end.Server p ≡ gives k) (id : k .id .0 ≡ s .request .id .0) where
+  taken-so : (g : Stage) → s .stage ≡ g → takes g (k .kind) ≡ true → (isKind Response (k .kind) ≡ true → k .chapid .0 ≡ s .request .chapid .0) → Taken s p g k
+  unfolding turnOf misnumbered
+  taken-so g e t c = record {
+    turn = ap (λ (u : Told Packet). told (turnRefusal s u) noPacket (u .value)) read ∙ sym (check-taken s k (ap (λ (h : Stage). takes h (k .kind)) e ∙ t) numbered);
+    stage = e;
+  }
+    where
+      numbered : misnumbered s k ≡ false
+      numbered =
+          or-none _ _ (ap not (eq-eqb _ _ id))
+          (tested (isKind Response (k .kind)) (λ r. and-second _ _ r (ap not (eq-eqb _ _ (c r)))) (λ r. and-first _ _ r))
 
-  pub judges-so : s .stage ≡ ChallengeSent → k .kind ≡ Response → k .chapid .0 ≡ s .chapid .0 → turnOf s p ≡ judges k
-  unfolding turnBy pick
-  judges-so e f c = turned ChallengeSent e Response f ∙ ap (λ (b : Bool). pick (not b) (refusedBy 18) (judges k)) (eq-eqb _ _ c)
+  pub judges-so : s .stage ≡ ChallengeSent → k .kind ≡ Response → k .chapid .0 ≡ s .request .chapid .0 → Taken s p ChallengeSent k
+  judges-so e f c = taken-so ChallengeSent e (ap (isKind Response) f) (λ _. c)
 
-  pub confirms-so : s .stage ≡ SuccessRequestSent → k .kind ≡ SuccessResponse → turnOf s p ≡ confirms k
-  unfolding turnBy pick
-  confirms-so e f = turned SuccessRequestSent e SuccessResponse f
+  pub confirms-so : s .stage ≡ SuccessRequestSent → k .kind ≡ SuccessResponse → Taken s p SuccessRequestSent k
+  confirms-so e f = taken-so SuccessRequestSent e (ap (isKind SuccessResponse) f) (λ r. clash (ap (isKind Response) f) r)
 
-  pub ends-so : s .stage ≡ FailureRequestSent → k .kind ≡ FailureResponse → turnOf s p ≡ ends k
-  unfolding turnBy pick
-  ends-so e f = turned FailureRequestSent e FailureResponse f
+  pub ends-so : s .stage ≡ FailureRequestSent → k .kind ≡ FailureResponse → Taken s p FailureRequestSent k
+  ends-so e f = taken-so FailureRequestSent e (ap (isKind FailureResponse) f) (λ r. clash (ap (isKind Response) f) r)
 
--- ---- what follows a turn
+-- ---- what follows
+-- a Failure Request that is due: no 22, no 20
+pub fail-so : (f : Failure) (s : Server) (fresh : List ℕ) (room : ℕ) → (fresh ≡ s .request .challenge → ⊥) → 100 ≤ f .error → f .error ≤ 999 → 60 ≤ room → failOf f s fresh room ≡ failing s f fresh
+unfolding failOf
+fail-so f s fresh room d h k r =
+    let n : same fresh (s .request .challenge) ≡ false = tested (same fresh (s .request .challenge)) (λ e. absurd (d (same-true _ _ e))) (λ e. e) in
+    let l : length (failureTo (nextId (s .request .id)) (f .error) (retryDigit (f .retry)) fresh) ≤ room = rw (length-failureRequest-60 _ _ (f .error) (retryDigit (f .retry)) fresh h k) r in
+    pick-false _ _ _ n ∙ fitting-so room s _ l
+
 module _ (s : Server) (p table fresh : List ℕ) (room : ℕ) (k : Packet) where
-  -- a right Response with code 0
-  pub grants-so : turnOf s p ≡ judges k → wellFormed table ≡ true → (r : RightAt s p table k) → r .code ≡ 0 → 54 ≤ room
-      → let string = authenticatorOf (hashAt table (r .place)) (ntResponseOf k p) (peerChallengeOf k p) (s .challenge) (userOf (nameOf k p)) in
-      packetOf s p table fresh room
-      ≡ asking SuccessRequestSent (nextId (s .id)) (s .challenge) (s .retries) (successRequest (nextId (s .id) .0) (chapOf (nextId (s .id)) .0) string [])
-  unfolding packetOf takeTurn judgedOf actOf actBy verdictOf judgeOf rightOf succeedOf asks pick
-  grants-so t w r c m =
-      let string = authenticatorOf (hashAt table (r .place)) (ntResponseOf k p) (peerChallengeOf k p) (s .challenge) (userOf (nameOf k p)) in
-      let l : length (successRequest (nextId (s .id) .0) (chapOf (nextId (s .id)) .0) string []) ≤ room = rw length-successRequest m in
-      ap (λ (u : Turn). takeTurn u s p table fresh room) t
-      ∙ ap (λ (v : Verdict). actOf v s fresh room) (judge-right (s .challenge) (peerChallengeOf k p) (ntResponseOf k p) (userOf (nameOf k p)) table w r)
-      ∙ ap (λ (n : ℕ). rightOf s n string fresh room) c
-      ∙ fitting-so room s _ l
+  pub taken-by : (g : Stage) → Taken s p g k → packetOf s p table fresh room ≡ takenBy g k s p table fresh room
+  unfolding packetOf
+  taken-by g t =
+      (λ j. pick (eqb (t .turn j .number) 0) (takenBy (t .stage j) (t .turn j .value) s p table fresh room) (refused (t .turn j .number) s))
+      ∙ pick-true _ _ _ refl
 
-  pub confirmed : turnOf s p ≡ confirms k → 4 ≤ room → packetOf s p table fresh room ≡ outcome 2 (eapSuccess (k .id .0)) (staged Success s)
-  unfolding packetOf takeTurn confirmOf
-  confirmed t m = ap (λ (u : Turn). takeTurn u s p table fresh room) t ∙ fitting-so room s (outcome 2 (eapSuccess (k .id .0)) (staged Success s)) m
+  pub confirmed : Taken s p SuccessRequestSent k → 4 ≤ room → packetOf s p table fresh room ≡ authenticated s k
+  unfolding takenBy
+  confirmed t m = taken-by SuccessRequestSent t ∙ fitting-so room s (authenticated s k) m
 
-  pub ended : turnOf s p ≡ ends k → 4 ≤ room → packetOf s p table fresh room ≡ outcome 3 (eapFailure (k .id .0)) (staged Failed s)
-  unfolding packetOf takeTurn endOf
-  ended t m = ap (λ (u : Turn). takeTurn u s p table fresh room) t ∙ fitting-so room s (outcome 3 (eapFailure (k .id .0)) (staged Failed s)) m
+  pub ended-so : Taken s p FailureRequestSent k → 4 ≤ room → packetOf s p table fresh room ≡ ended s k
+  unfolding takenBy
+  ended-so t m = taken-by FailureRequestSent t ∙ fitting-so room s (ended s k) m

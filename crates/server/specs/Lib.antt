@@ -1,5 +1,6 @@
 pub mod State
 pub mod Moves
 pub mod Calls
+pub mod Runs
 pub mod Guess
 pub mod Effects

@@ -1,18 +1,27 @@
--- 01, "The server's moves": the state, and what each kind of move makes of it.
+-- 01, "The server's moves": the state, what each kind of move makes of it, and the requests that a server writes.
 use Prim.Native.Nat.{ℕ, _+_, _%_}
-use mathlib.Core.List.{List}
+use mathlib.Core.Bool.{Bool, true, false}
+use mathlib.Core.List.{List, []}
 use lib.ListN.{length, take, replicate}
 use Rattle.octets.specs.Lists.{sized}
+use Rattle.answer.specs.Sizes.{maxName}
 use Rattle.answer.specs.declared.Identifier.{Identifier}
 use Rattle.answer.specs.declared.ChapId.{ChapId}
+use Rattle.packet.specs.Forms.{challengeNameAt, challengePacket, successRequest, failureRequest}
 use Rattle.server.specs.declared.Stage.{Stage}
 use Rattle.server.specs.declared.Stage.the-variants.{Begin}
+use Rattle.server.specs.declared.Request.{Request}
 use Rattle.server.specs.declared.Server.{Server}
+
+-- the longest request: a Challenge with the longest name
+abbrev pub requestRoom : ℕ
+requestRoom = challengeNameAt + maxName
 
 -- the outstanding request. A length past the array counts as the array's length
 unfoldable pub storedRequest : Server → List ℕ
-storedRequest s = take (s .requestlen) (s .request)
+storedRequest s = take (s .request .len) (s .request .octets)
 
+-- ---- requests
 -- "Every later request has the next Identifier; after 255 comes 0."
 unfoldable pub nextId : Identifier → Identifier
 nextId i = record { 0 = (i .0 + 1) % 256 }
@@ -21,39 +30,42 @@ nextId i = record { 0 = (i .0 + 1) % 256 }
 unfoldable pub chapOf : Identifier → ChapId
 chapOf i = record { 0 = i .0 }
 
--- ---- states after a move: "a move changes only what it names; fields not yet set are zero"
--- a fresh server, from nothing
-unfoldable pub fresh : Server
-fresh = record {
+abbrev pub challengeTo : Identifier → List ℕ → List ℕ → List ℕ
+challengeTo id challenge name = challengePacket (id .0) (chapOf id .0) challenge name
+
+-- "nothing after `M=`"
+abbrev pub successTo : Identifier → List ℕ → List ℕ
+successTo id string = successRequest (id .0) (chapOf id .0) string []
+
+-- R
+abbrev pub retryDigit : Bool → ℕ
+retryDigit true = 1
+retryDigit false = 0
+
+abbrev pub failureTo : Identifier → ℕ → ℕ → List ℕ → List ℕ
+failureTo id error retry challenge = failureRequest (id .0) (chapOf id .0) error retry challenge []
+
+-- ---- states: "a move changes only what it names; fields not yet set are zero"
+-- of a new server
+unfoldable pub initial : Server
+initial = record {
   stage = Begin;
-  id = record { 0 = 0 };
-  chapid = record { 0 = 0 };
-  challenge = replicate 16 0;
   retries = 0;
-  request = replicate 282 0;
-  requestlen = 0;
+  request = record { id = record { 0 = 0 }; chapid = record { 0 = 0 }; challenge = replicate 16 0; octets = replicate requestRoom 0; len = 0 };
 }
 
+-- the outstanding request q
+abbrev pub requested : Identifier → List ℕ → List ℕ → Request
+requested id challenge q = record { id = id; chapid = chapOf id; challenge = challenge; octets = sized requestRoom q; len = length q }
+
+-- every move: the stage, the retries left and the outstanding request, and all else kept
+abbrev pub moved : Stage → ℕ → Request → Server → Server
+moved stage retries request s = record { stage = stage; retries = retries; request = request }
+
 -- the request q is outstanding
-unfoldable pub asked : Stage → Identifier → List ℕ → ℕ → List ℕ → Server
-asked stage id challenge retries q = record {
-  stage = stage;
-  id = id;
-  chapid = chapOf id;
-  challenge = challenge;
-  retries = retries;
-  request = sized 282 q;
-  requestlen = length q;
-}
+unfoldable pub asked : Stage → Identifier → List ℕ → ℕ → List ℕ → Server → Server
+asked stage id challenge retries q s = moved stage retries (requested id challenge q) s
 
 -- the stage alone
 unfoldable pub staged : Stage → Server → Server
-staged stage s = record {
-  stage = stage;
-  id = s .id;
-  chapid = s .chapid;
-  challenge = s .challenge;
-  retries = s .retries;
-  request = s .request;
-  requestlen = s .requestlen;
-}
+staged stage s = moved stage (s .retries) (s .request) s

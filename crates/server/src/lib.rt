@@ -1,21 +1,20 @@
 // The server's end: start, packet and resend, each on the state by value.
 ghost use mathlib.Core.Path.{_≡_};
 ghost use mathlib.Core.Bool.{true};
-ghost use mathlib.Core.List.{[]};
 ghost use Prim.Native.Nat.{_≤_};
 ghost use lib.ListN.{length};
 ghost use lib.Dec.{eqb};
 ghost use Rattle.octets.specs.Choice.{pick};
 ghost use Rattle.answer.specs.Answer.{numberOf, refusalOf};
-ghost use Rattle.answer.specs.Outcome.{Does, refused};
-ghost use Rattle.packet.specs.Forms.{challengePacket, successRequest, failureRequest};
-ghost use Rattle.packet.specs.Reader.{toldReading};
+ghost use Rattle.answer.specs.Outcome.{Does, gives, told, outcome, refused, fitting};
+ghost use Rattle.answer.specs.Sizes.{maxName};
+ghost use Rattle.packet.specs.Reader.{noPacket, toldReading, challengeIn};
 ghost use Rattle.verdict.specs.Verdict.{judgeOf};
 ghost use Rattle.writers.specs.Writers.{sends};
 ghost use Rattle.server.specs.declared.Stage.the-variants as Stage;
-ghost use Rattle.server.specs.State.{nextId, chapOf, fresh as freshServer, staged};
-ghost use Rattle.server.specs.Moves.{begins, sent, moveOf, toldTurn, turnBy, turnAt, turnRead, turnOf};
-ghost use Rattle.server.specs.Calls.{asksBy, asks, startFits, startOf, rejectOf, failOf, wrongOf, succeedOf, rightOf, actBy, dueOf, Brings, judgedOf, peerChallengeOf, ntResponseOf, nameOf, confirmOf, endOf, takeTurn, packetOf, againOf, resendOf};
+ghost use Rattle.server.specs.State.{requestRoom, storedRequest, requested, nextId, chapOf, challengeTo, successTo, retryDigit, failureTo, initial, staged};
+ghost use Rattle.server.specs.Moves.{begins, sent, takes, misnumbered, turnRefusal, turnOf};
+ghost use Rattle.server.specs.Calls.{asking, succeeding, authenticated, ended, startFits, startOf, final, dueOf, failOf, actOf, verdictOf, judgedBy, ntResponseOf, responseName, takenBy, packetOf, resendOf};
 use answer::Answer;
 use answer::ChapId;
 use answer::Identifier;
@@ -24,6 +23,7 @@ use packet::End;
 use packet::Kind;
 use packet::Packet;
 use packet::Reading;
+use packet::is_kind;
 use verdict::Mark;
 use verdict::Verdict;
 use writers::Written;
@@ -37,15 +37,20 @@ pub enum Stage {
     Failed,
 }
 
-// The outstanding request's Identifier and MS-CHAPv2-ID, the outstanding challenge, the retries left, and that request.
-pub struct Server {
-    pub stage: Stage,
+// A request: its Identifier and MS-CHAPv2-ID, the challenge that is outstanding with it, and its octets.
+pub struct Request {
     pub id: Identifier,
     pub chapid: ChapId,
     pub challenge: [u8; 16],
+    pub octets: [u8; Server::REQUEST_ROOM],
+    pub len: u16,
+}
+
+// The retries left, and the outstanding request.
+pub struct Server {
+    pub stage: Stage,
     pub retries: u8,
-    pub request: [u8; 282],
-    pub requestlen: u16,
+    pub request: Request,
 }
 
 // What a call answers: n octets of the reply buffer are written, and the state after it.
@@ -55,27 +60,11 @@ pub struct ServerStep {
     pub server: Server,
 }
 
-// What a stage makes of a packet.
-enum Move {
-    NotTaken,
-    Judge,
-    Confirm,
-    End,
-}
-
-// What is to be done with a packet: refuse it, judge a Response, or answer EAP Success or EAP Failure.
-enum Turn {
-    Refused(Refusal),
-    Judge(Packet),
-    Confirm(Packet),
-    End(Packet),
-}
-
-// A Failure Request's code and R, and the stage and the retries left after it.
+// A Failure Request's E and R, and the stage and the retries left after it.
 struct Failure {
     stage: Stage,
     retries: u8,
-    code: u16,
+    error: u16,
     retry: bool,
 }
 
@@ -113,77 +102,17 @@ fn is_sent(stage: Stage) -> bool
     }
 }
 
-fn move_of(stage: Stage, kind: Kind) -> Move
-    ensures { λ r. ⌜ r ≡ moveOf stage kind ⌝ }
+// The kind of packet that a stage takes.
+fn takes(stage: Stage, kind: Kind) -> bool
+    ensures { λ r. ⌜ r ≡ takes stage kind ⌝ }
 {
     match stage {
-        Stage::Begin => Move::NotTaken,
-        Stage::ChallengeSent => match kind {
-            Kind::Challenge => Move::NotTaken,
-            Kind::Response => Move::Judge,
-            Kind::SuccessRequest => Move::NotTaken,
-            Kind::FailureRequest => Move::NotTaken,
-            Kind::RetryRequest => Move::NotTaken,
-            Kind::SuccessResponse => Move::NotTaken,
-            Kind::FailureResponse => Move::NotTaken,
-            Kind::EapSuccess => Move::NotTaken,
-            Kind::EapFailure => Move::NotTaken,
-        },
-        Stage::SuccessRequestSent => match kind {
-            Kind::Challenge => Move::NotTaken,
-            Kind::Response => Move::NotTaken,
-            Kind::SuccessRequest => Move::NotTaken,
-            Kind::FailureRequest => Move::NotTaken,
-            Kind::RetryRequest => Move::NotTaken,
-            Kind::SuccessResponse => Move::Confirm,
-            Kind::FailureResponse => Move::NotTaken,
-            Kind::EapSuccess => Move::NotTaken,
-            Kind::EapFailure => Move::NotTaken,
-        },
-        Stage::FailureRequestSent => match kind {
-            Kind::Challenge => Move::NotTaken,
-            Kind::Response => Move::NotTaken,
-            Kind::SuccessRequest => Move::NotTaken,
-            Kind::FailureRequest => Move::NotTaken,
-            Kind::RetryRequest => Move::NotTaken,
-            Kind::SuccessResponse => Move::NotTaken,
-            Kind::FailureResponse => Move::End,
-            Kind::EapSuccess => Move::NotTaken,
-            Kind::EapFailure => Move::NotTaken,
-        },
-        Stage::Success => Move::NotTaken,
-        Stage::Failed => Move::NotTaken,
-    }
-}
-
-// ---- the turn: no table is read
-// 19, then 18; id and chapid say whether each number is the outstanding one.
-fn turn_by(m: Move, id: bool, chapid: bool, k: Packet) -> Turn
-    ensures { λ r. ⌜ toldTurn r ≡ turnBy m id chapid k ⌝ }
-{
-    match m {
-        Move::NotTaken => Turn::Refused(Refusal::NotTaken),
-        Move::Judge => {
-            if !id {
-                return Turn::Refused(Refusal::WrongIdentifier);
-            }
-            if !chapid {
-                return Turn::Refused(Refusal::WrongIdentifier);
-            }
-            Turn::Judge(k)
-        }
-        Move::Confirm => {
-            if !id {
-                return Turn::Refused(Refusal::WrongIdentifier);
-            }
-            Turn::Confirm(k)
-        }
-        Move::End => {
-            if !id {
-                return Turn::Refused(Refusal::WrongIdentifier);
-            }
-            Turn::End(k)
-        }
+        Stage::Begin => false,
+        Stage::ChallengeSent => is_kind(Kind::Response, kind),
+        Stage::SuccessRequestSent => is_kind(Kind::SuccessResponse, kind),
+        Stage::FailureRequestSent => is_kind(Kind::FailureResponse, kind),
+        Stage::Success => false,
+        Stage::Failed => false,
     }
 }
 
@@ -203,29 +132,45 @@ fn chap_of(id: Identifier) -> ChapId
 
 // ---- what goes out
 fn challenge_request(id: Identifier, challenge: [u8; 16], name: &[u8], reply: &mut [u8]) -> Written
-    requires { ⌜ (1 ≤ length (now name)) × (length (now name) ≤ 256) ⌝ }
-    ensures { λ r. ⌜ Does (sends (length (now (reply .entry))) (challengePacket (id .0) (chapOf id .0) challenge (now (name .entry)))) (numberOf (r .answer)) (r .n) tt (now (reply .entry)) (now (reply .exit)) ⌝ }
+    requires { ⌜ (1 ≤ length (now name)) × (length (now name) ≤ maxName) ⌝ }
+    ensures { λ r. ⌜ Does (sends (length (now (reply .entry))) (challengeTo id challenge (now (name .entry)))) (numberOf (r .answer)) (r .n) tt (now (reply .entry)) (now (reply .exit)) ⌝ }
 {
     writers::write_challenge(id, chap_of(id), challenge, name, reply)
 }
 
 fn success_request(id: Identifier, string: [u8; 20], reply: &mut [u8]) -> Written
-    ensures { λ r. ⌜ Does (sends (length (now (reply .entry))) (successRequest (id .0) (chapOf id .0) string [])) (numberOf (r .answer)) (r .n) tt (now (reply .entry)) (now (reply .exit)) ⌝ }
+    ensures { λ r. ⌜ Does (sends (length (now (reply .entry))) (successTo id string)) (numberOf (r .answer)) (r .n) tt (now (reply .entry)) (now (reply .exit)) ⌝ }
 {
     writers::write_success_request(id, chap_of(id), string, b"", reply)
 }
 
 fn failure_request(
     id: Identifier,
-    code: u16,
+    error: u16,
     retry: u8,
     fresh: [u8; 16],
     reply: &mut [u8],
 ) -> Written
     requires { ⌜ retry ≤ 1 ⌝ }
-    ensures { λ r. ⌜ Does (sends (length (now (reply .entry))) (failureRequest (id .0) (chapOf id .0) code retry fresh [])) (numberOf (r .answer)) (r .n) tt (now (reply .entry)) (now (reply .exit)) ⌝ }
+    ensures { λ r. ⌜ Does (sends (length (now (reply .entry))) (failureTo id error retry fresh)) (numberOf (r .answer)) (r .n) tt (now (reply .entry)) (now (reply .exit)) ⌝ }
 {
-    writers::write_failure_request(id, chap_of(id), code as u64, retry, fresh, b"", reply)
+    writers::write_failure_request(id, chap_of(id), error as u64, retry, fresh, b"", reply)
+}
+
+// The request q, outstanding.
+fn requested(id: Identifier, challenge: [u8; 16], q: &[u8]) -> Request
+    requires { ⌜ length (now q) ≤ requestRoom ⌝ }
+    ensures { λ r. ⌜ r ≡ requested id challenge (now (q .entry)) ⌝ }
+{
+    let mut room = [0u8; Server::REQUEST_ROOM];
+    octets::fill(&mut room, q);
+    Request {
+        id,
+        chapid: chap_of(id),
+        challenge,
+        octets: room,
+        len: q.len() as u16,
+    }
 }
 
 // The answer after n octets were sent: the writer's own where none were.
@@ -250,7 +195,7 @@ fn stage_after(n: usize, old: Stage, stage: Stage) -> Stage
 
 // R, as a Failure Request has it.
 fn retry_digit(retry: bool) -> u8
-    ensures { λ r. ⌜ r ≡ pick retry 1 0 ⌝ }
+    ensures { λ r. ⌜ r ≡ retryDigit retry ⌝ }
 {
     if retry {
         return 1;
@@ -276,7 +221,7 @@ fn start_fits(n: usize, retries: u64) -> bool
 
 // The verdict on a Response, by its peer challenge, NT-Response and name.
 fn verdict_on(challenge: [u8; 16], k: Packet, p: &[u8], table: &[u8]) -> Verdict
-    ensures { λ r. ⌜ r ≡ judgeOf challenge (peerChallengeOf k (now (p .entry))) (ntResponseOf k (now (p .entry))) (nameOf k (now (p .entry))) (now (table .entry)) ⌝ }
+    ensures { λ r. ⌜ r ≡ judgeOf challenge (challengeIn k (now (p .entry))) (ntResponseOf k (now (p .entry))) (responseName k (now (p .entry))) (now (table .entry)) ⌝ }
 {
     let peer = packet::sixteen_at(p, k.challenge.start);
     let response = packet::response_at(p, k.response.start);
@@ -285,22 +230,28 @@ fn verdict_on(challenge: [u8; 16], k: Packet, p: &[u8], table: &[u8]) -> Verdict
 }
 
 impl Server {
-    pub const MAX_NAME: usize = 256;
+    pub const MAX_NAME: usize = answer::MAX_NAME;
 
     pub const MAX_RETRIES: u64 = 10;
 
-    // A fresh server.
+    pub const REQUEST_ROOM: usize = packet::CHALLENGE_NAME_AT + Server::MAX_NAME;
+
+    // The E of a wrong Response.
+    const AUTHENTICATION_FAILURE: u16 = 691;
+
     pub fn new() -> Server
-        ensures { λ r. ⌜ r ≡ freshServer ⌝ }
+        ensures { λ r. ⌜ r ≡ initial ⌝ }
     {
         Server {
             stage: Stage::Begin,
-            id: Identifier(0),
-            chapid: ChapId(0),
-            challenge: [0u8; 16],
             retries: 0,
-            request: [0u8; 282],
-            requestlen: 0,
+            request: Request {
+                id: Identifier(0),
+                chapid: ChapId(0),
+                challenge: [0u8; 16],
+                octets: [0u8; Server::REQUEST_ROOM],
+                len: 0,
+            },
         }
     }
 
@@ -309,18 +260,11 @@ impl Server {
     fn at(self, stage: Stage) -> Server
         ensures { λ r. ⌜ r ≡ staged stage self ⌝ }
     {
-        let id = self.id;
-        let chapid = self.chapid;
-        let challenge = self.challenge;
         let request = self.request;
         Server {
             stage,
-            id,
-            chapid,
-            challenge,
             retries: self.retries,
             request,
-            requestlen: self.requestlen,
         }
     }
 
@@ -343,8 +287,8 @@ impl Server {
         retries: u8,
         q: &[u8],
     ) -> ServerStep
-        requires { ⌜ length (now q) ≤ 282 ⌝ }
-        ensures { λ r. ⌜ Does (asksBy self stage id challenge retries (now (q .entry))) (numberOf (r .answer)) (r .n) (r .server) (now (q .entry)) (now (q .entry)) ⌝ }
+        requires { ⌜ length (now q) ≤ requestRoom ⌝ }
+        ensures { λ r. ⌜ Does (pick (eqb (length (now (q .entry))) 0) (refused 20 self) (asking self stage id challenge retries (now (q .entry)))) (numberOf (r .answer)) (r .n) (r .server) (now (q .entry)) (now (q .entry)) ⌝ }
     {
         if q.len() == 0 {
             return ServerStep {
@@ -353,19 +297,13 @@ impl Server {
                 server: self,
             };
         }
-        let mut request = [0u8; 282];
-        octets::fill(&mut request, q);
         ServerStep {
             answer: Answer::Written,
             n: q.len(),
             server: Server {
                 stage,
-                id,
-                chapid: chap_of(id),
-                challenge,
                 retries,
-                request,
-                requestlen: q.len() as u16,
+                request: requested(id, challenge, q),
             },
         }
     }
@@ -395,7 +333,7 @@ impl Server {
         reply: &mut [u8],
     ) -> ServerStep
         requires { ⌜ startFits (length (now name)) retries ≡ true ⌝ }
-        ensures { λ r. ⌜ Does (asks self Stage.ChallengeSent id challenge retries (challengePacket (id .0) (chapOf id .0) challenge (now (name .entry))) (length (now (reply .entry)))) (numberOf (r .answer)) (r .n) (r .server) (now (reply .entry)) (now (reply .exit)) ⌝ }
+        ensures { λ r. ⌜ Does (fitting (length (now (reply .entry))) self (asking self Stage.ChallengeSent id challenge retries (challengeTo id challenge (now (name .entry))))) (numberOf (r .answer)) (r .n) (r .server) (now (reply .entry)) (now (reply .exit)) ⌝ }
     {
         let w = challenge_request(id, challenge, name, reply);
         self.ask(
@@ -428,77 +366,81 @@ impl Server {
         self.begin(id, challenge, name, retries, reply)
     }
 
-    // ---- the turn
-    fn turn_at(self, k: Packet) -> Turn
-        ensures { λ r. ⌜ toldTurn r ≡ turnAt self k ⌝ }
+    // ---- the turn: no table is read
+    fn misnumbered(self, k: Packet) -> bool
+        ensures { λ r. ⌜ r ≡ misnumbered self k ⌝ }
+    {
+        if k.id.0 != self.request.id.0 {
+            return true;
+        }
+        let kind = k.kind;
+        if !is_kind(Kind::Response, kind) {
+            return false;
+        }
+        k.chapid.0 != self.request.chapid.0
+    }
+
+    // 19, then 18.
+    fn checked(self, k: Packet) -> Reading
+        ensures { λ r. ⌜ toldReading r ≡ told (turnRefusal self (gives k)) noPacket k ⌝ }
     {
         let stage = self.stage;
         let kind = k.kind;
-        let m = move_of(stage, kind);
-        turn_by(m, k.id.0 == self.id.0, k.chapid.0 == self.chapid.0, k)
-    }
-
-    fn turn_read(self, x: Reading) -> Turn
-        ensures { λ r. ⌜ toldTurn r ≡ turnRead (toldReading x) self ⌝ }
-    {
-        match x {
-            Reading::Refused(why) => Turn::Refused(why),
-            Reading::Read(k) => self.turn_at(k),
+        if !takes(stage, kind) {
+            return Reading::Refused(Refusal::NotTaken);
         }
+        if self.misnumbered(k) {
+            return Reading::Refused(Refusal::WrongIdentifier);
+        }
+        Reading::Read(k)
     }
 
-    fn turn(self, p: &[u8]) -> Turn
-        ensures { λ r. ⌜ toldTurn r ≡ turnOf self (now (p .entry)) ⌝ }
+    fn turn(self, p: &[u8]) -> Reading
+        ensures { λ r. ⌜ toldReading r ≡ turnOf self (now (p .entry)) ⌝ }
     {
         let x = packet::read(End::Server, p);
-        self.turn_read(x)
+        match x {
+            Reading::Refused(why) => Reading::Refused(why),
+            Reading::Read(k) => self.checked(k),
+        }
     }
 
     // ---- what is due
-    // Another try, with one retry fewer; the end where none is left.
-    fn wrong(self) -> Due
-        ensures { λ r. ⌜ Brings r self (λ _. wrongOf self) ⌝ }
+    // The end, with R=0.
+    fn last(self, error: u16) -> Failure
+        ensures { λ r. ⌜ r ≡ final self error ⌝ }
     {
-        let stage = self.stage;
-        if self.retries == 0 {
-            return Due::Failure(Failure {
-                stage: Stage::FailureRequestSent,
-                retries: self.retries,
-                code: 691,
-                retry: false,
-            });
-        }
-        Due::Failure(Failure {
-            stage,
-            retries: self.retries - 1,
-            code: 691,
-            retry: true,
-        })
-    }
-
-    // By the account's code.
-    fn right(self, code: u16) -> Due
-        ensures { λ r. ⌜ Brings r self (rightOf self code) ⌝ }
-    {
-        if code == 0 {
-            return Due::Success;
-        }
-        Due::Failure(Failure {
+        Failure {
             stage: Stage::FailureRequestSent,
             retries: self.retries,
-            code,
+            error,
             retry: false,
-        })
+        }
     }
 
-    // 21, or what the verdict brings.
     fn due(self, mark: Mark, code: u16) -> Due
-        ensures { λ r. ⌜ Brings r self (actBy mark self code) ⌝ }
+        ensures { λ r. ⌜ r ≡ dueOf mark code self ⌝ }
     {
+        let stage = self.stage;
         match mark {
             Mark::Malformed => Due::Refused(Refusal::BadTable),
-            Mark::Wrong => self.wrong(),
-            Mark::Right => self.right(code),
+            Mark::Right => {
+                if code == 0 {
+                    return Due::Success;
+                }
+                Due::Failure(self.last(code))
+            }
+            Mark::Wrong => {
+                if self.retries == 0 {
+                    return Due::Failure(self.last(Server::AUTHENTICATION_FAILURE));
+                }
+                Due::Failure(Failure {
+                    stage,
+                    retries: self.retries - 1,
+                    error: Server::AUTHENTICATION_FAILURE,
+                    retry: true,
+                })
+            }
         }
     }
 
@@ -508,36 +450,43 @@ impl Server {
         self,
         stage: Stage,
         retries: u8,
-        code: u16,
+        error: u16,
         retry: u8,
         fresh: [u8; 16],
         reply: &mut [u8],
     ) -> ServerStep
         requires { ⌜ retry ≤ 1 ⌝ }
-        ensures { λ r. ⌜ Does (rejectOf self stage retries code retry fresh (length (now (reply .entry)))) (numberOf (r .answer)) (r .n) (r .server) (now (reply .entry)) (now (reply .exit)) ⌝ }
+        ensures { λ r. ⌜ Does (fitting (length (now (reply .entry))) self (asking self stage (nextId (self .request .id)) fresh retries (failureTo (nextId (self .request .id)) error retry fresh))) (numberOf (r .answer)) (r .n) (r .server) (now (reply .entry)) (now (reply .exit)) ⌝ }
     {
-        let id = next_id(self.id);
-        let w = failure_request(id, code, retry, fresh, reply);
+        let id = next_id(self.request.id);
+        let w = failure_request(id, error, retry, fresh, reply);
         self.ask(stage, id, fresh, retries, octets::part(reply, 0, w.n))
     }
 
     // 22, then the Failure Request.
     fn fail(self, f: Failure, fresh: [u8; 16], reply: &mut [u8]) -> ServerStep
-        ensures { λ r. ⌜ Does (failOf self (f .stage) (f .retries) (f .code) (pick (f .retry) 1 0) fresh (length (now (reply .entry)))) (numberOf (r .answer)) (r .n) (r .server) (now (reply .entry)) (now (reply .exit)) ⌝ }
+        ensures { λ r. ⌜ Does (failOf f self fresh (length (now (reply .entry)))) (numberOf (r .answer)) (r .n) (r .server) (now (reply .entry)) (now (reply .exit)) ⌝ }
     {
-        let outstanding = self.challenge;
+        let outstanding = self.request.challenge;
         if octets::equal(&fresh, &outstanding) {
             return self.refuse(Refusal::SameChallenge, reply);
         }
         let stage = f.stage;
-        self.reject(stage, f.retries, f.code, retry_digit(f.retry), fresh, reply)
+        self.reject(
+            stage,
+            f.retries,
+            f.error,
+            retry_digit(f.retry),
+            fresh,
+            reply,
+        )
     }
 
     fn succeed(self, string: [u8; 20], reply: &mut [u8]) -> ServerStep
-        ensures { λ r. ⌜ Does (succeedOf self string (length (now (reply .entry)))) (numberOf (r .answer)) (r .n) (r .server) (now (reply .entry)) (now (reply .exit)) ⌝ }
+        ensures { λ r. ⌜ Does (fitting (length (now (reply .entry))) self (succeeding self string)) (numberOf (r .answer)) (r .n) (r .server) (now (reply .entry)) (now (reply .exit)) ⌝ }
     {
-        let challenge = self.challenge;
-        let id = next_id(self.id);
+        let challenge = self.request.challenge;
+        let id = next_id(self.request.id);
         let w = success_request(id, string, reply);
         self.ask(
             Stage::SuccessRequestSent,
@@ -549,7 +498,7 @@ impl Server {
     }
 
     fn act(self, d: Due, string: [u8; 20], fresh: [u8; 16], reply: &mut [u8]) -> ServerStep
-        ensures { λ r. ⌜ Does (dueOf d self string fresh (length (now (reply .entry)))) (numberOf (r .answer)) (r .n) (r .server) (now (reply .entry)) (now (reply .exit)) ⌝ }
+        ensures { λ r. ⌜ Does (actOf d self string fresh (length (now (reply .entry)))) (numberOf (r .answer)) (r .n) (r .server) (now (reply .entry)) (now (reply .exit)) ⌝ }
     {
         match d {
             Due::Refused(why) => self.refuse(why, reply),
@@ -567,9 +516,9 @@ impl Server {
         fresh: [u8; 16],
         reply: &mut [u8],
     ) -> ServerStep
-        ensures { λ r. ⌜ Does (judgedOf k self (now (p .entry)) (now (table .entry)) fresh (length (now (reply .entry)))) (numberOf (r .answer)) (r .n) (r .server) (now (reply .entry)) (now (reply .exit)) ⌝ }
+        ensures { λ r. ⌜ Does (judgedBy (verdictOf self k (now (p .entry)) (now (table .entry))) self fresh (length (now (reply .entry)))) (numberOf (r .answer)) (r .n) (r .server) (now (reply .entry)) (now (reply .exit)) ⌝ }
     {
-        let challenge = self.challenge;
+        let challenge = self.request.challenge;
         let v = verdict_on(challenge, k, p, table);
         let mark = v.mark;
         let string = v.string;
@@ -579,7 +528,7 @@ impl Server {
 
     // EAP Success goes out.
     fn confirm(self, k: Packet, reply: &mut [u8]) -> ServerStep
-        ensures { λ r. ⌜ Does (confirmOf k self (length (now (reply .entry)))) (numberOf (r .answer)) (r .n) (r .server) (now (reply .entry)) (now (reply .exit)) ⌝ }
+        ensures { λ r. ⌜ Does (fitting (length (now (reply .entry))) self (authenticated self k)) (numberOf (r .answer)) (r .n) (r .server) (now (reply .entry)) (now (reply .exit)) ⌝ }
     {
         let w = writers::write_eap_success(k.id, reply);
         self.close(w, Answer::Authenticated, Stage::Success)
@@ -587,27 +536,31 @@ impl Server {
 
     // EAP Failure goes out.
     fn end(self, k: Packet, reply: &mut [u8]) -> ServerStep
-        ensures { λ r. ⌜ Does (endOf k self (length (now (reply .entry)))) (numberOf (r .answer)) (r .n) (r .server) (now (reply .entry)) (now (reply .exit)) ⌝ }
+        ensures { λ r. ⌜ Does (fitting (length (now (reply .entry))) self (ended self k)) (numberOf (r .answer)) (r .n) (r .server) (now (reply .entry)) (now (reply .exit)) ⌝ }
     {
         let w = writers::write_eap_failure(k.id, reply);
         self.close(w, Answer::Ended, Stage::Failed)
     }
 
-    fn take_turn(
+    // What the stage does with the packet that it takes.
+    fn taken(
         self,
-        u: Turn,
+        k: Packet,
         p: &[u8],
         table: &[u8],
         fresh: [u8; 16],
         reply: &mut [u8],
     ) -> ServerStep
-        ensures { λ r. ⌜ Does (takeTurn (toldTurn u) self (now (p .entry)) (now (table .entry)) fresh (length (now (reply .entry)))) (numberOf (r .answer)) (r .n) (r .server) (now (reply .entry)) (now (reply .exit)) ⌝ }
+        ensures { λ r. ⌜ Does (takenBy (self .stage) k self (now (p .entry)) (now (table .entry)) fresh (length (now (reply .entry)))) (numberOf (r .answer)) (r .n) (r .server) (now (reply .entry)) (now (reply .exit)) ⌝ }
     {
-        match u {
-            Turn::Refused(why) => self.refuse(why, reply),
-            Turn::Judge(k) => self.judged(k, p, table, fresh, reply),
-            Turn::Confirm(k) => self.confirm(k, reply),
-            Turn::End(k) => self.end(k, reply),
+        let stage = self.stage;
+        match stage {
+            Stage::Begin => self.refuse(Refusal::NotTaken, reply),
+            Stage::ChallengeSent => self.judged(k, p, table, fresh, reply),
+            Stage::SuccessRequestSent => self.confirm(k, reply),
+            Stage::FailureRequestSent => self.end(k, reply),
+            Stage::Success => self.refuse(Refusal::NotTaken, reply),
+            Stage::Failed => self.refuse(Refusal::NotTaken, reply),
         }
     }
 
@@ -621,16 +574,19 @@ impl Server {
     ) -> ServerStep
         ensures { λ r. ⌜ Does (packetOf self (now (packet .entry)) (now (table .entry)) fresh (length (now (reply .entry)))) (numberOf (r .answer)) (r .n) (r .server) (now (reply .entry)) (now (reply .exit)) ⌝ }
     {
-        let u = self.turn(packet);
-        self.take_turn(u, packet, table, fresh, reply)
+        let x = self.turn(packet);
+        match x {
+            Reading::Refused(why) => self.refuse(why, reply),
+            Reading::Read(k) => self.taken(k, packet, table, fresh, reply),
+        }
     }
 
     // ---- resend
     fn again(self, reply: &mut [u8]) -> ServerStep
-        ensures { λ r. ⌜ Does (againOf self (length (now (reply .entry)))) (numberOf (r .answer)) (r .n) (r .server) (now (reply .entry)) (now (reply .exit)) ⌝ }
+        ensures { λ r. ⌜ Does (fitting (length (now (reply .entry))) self (outcome 0 (storedRequest self) self)) (numberOf (r .answer)) (r .n) (r .server) (now (reply .entry)) (now (reply .exit)) ⌝ }
     {
-        let request = self.request;
-        let n = self.requestlen as usize;
+        let request = self.request.octets;
+        let n = self.request.len as usize;
         let w = writers::send(octets::part(&request, 0, n), reply);
         let answer = w.answer;
         ServerStep {

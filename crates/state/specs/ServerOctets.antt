@@ -1,16 +1,25 @@
 -- A server's state as octets: the layout of include/zirgumtak.h.
-use Prim.Native.Nat.{ℕ, _/_, _%_}
+use Prim.Native.Nat.{ℕ, _+_, _/_, _%_}
 use mathlib.Core.Path.{_≡_}
-use mathlib.Core.List.{List, [], _∷_, _++_}
+use mathlib.Core.List.{List, [], _∷_, flatten}
 use lib.ListN.{length, getD, drop}
-use lib.Dec.{eqb}
-use Rattle.octets.specs.Choice.{pick}
 use Rattle.octets.specs.Lists.{sized}
 use Rattle.octets.specs.Octets.{numberAt}
 use Rattle.octets.specs.declared.Order.the-variants.{Little}
 use Rattle.server.specs.declared.Stage.{Stage}
 use Rattle.server.specs.declared.Stage.the-variants.{Begin, ChallengeSent, SuccessRequestSent, FailureRequestSent, Success, Failed}
 use Rattle.server.specs.declared.Server.{Server}
+use Rattle.server.specs.State.{requestRoom}
+
+-- where each array begins, after six octets of numbers
+abbrev pub challengeAt : ℕ
+challengeAt = 6
+
+abbrev pub requestAt : ℕ
+requestAt = challengeAt + 16
+
+abbrev pub serverOctets : ℕ
+serverOctets = requestAt + requestRoom
 
 abbrev pub serverStageNumber : Stage → ℕ
 serverStageNumber Begin = 0
@@ -22,38 +31,35 @@ serverStageNumber Failed = 5
 
 -- any other number reads as FAILED
 unfoldable pub serverStageOf : ℕ → Stage
-serverStageOf n =
-    pick (eqb n 0) Begin
-    (pick (eqb n 1) ChallengeSent
-    (pick (eqb n 2) SuccessRequestSent
-    (pick (eqb n 3) FailureRequestSent
-    (pick (eqb n 4) Success Failed))))
+serverStageOf n = getD (Begin ∷ ChallengeSent ∷ SuccessRequestSent ∷ FailureRequestSent ∷ Success ∷ []) n Failed
 
 -- the server that octets stand for; octets past the end count as 0
 unfoldable pub serverOf : List ℕ → Server
 serverOf s = record {
   stage = serverStageOf (getD s 0 0);
-  id = record { 0 = getD s 1 0 };
-  chapid = record { 0 = getD s 2 0 };
-  challenge = sized 16 (drop 6 s);
   retries = getD s 3 0;
-  request = sized 282 (drop 22 s);
-  requestlen = numberAt Little s 4;
+  request = record {
+    id = record { 0 = getD s 1 0 };
+    chapid = record { 0 = getD s 2 0 };
+    challenge = sized 16 (drop challengeAt s);
+    octets = sized requestRoom (drop requestAt s);
+    len = numberAt Little s 4;
+  };
 }
 
--- octets 0 to 5, and 6 to 303
-abbrev pub headOf : Server → List ℕ
-headOf s =
-    serverStageNumber (s .stage) ∷ s .id .0 ∷ s .chapid .0 ∷ s .retries
-    ∷ s .requestlen % 256 ∷ s .requestlen / 256 ∷ []
+abbrev pub serverNumbers : Server → List ℕ
+serverNumbers s =
+    serverStageNumber (s .stage) ∷ s .request .id .0 ∷ s .request .chapid .0 ∷ s .retries
+    ∷ s .request .len % 256 ∷ s .request .len / 256 ∷ []
 
-abbrev pub bodyOf : Server → List ℕ
-bodyOf s = s .challenge ++ s .request
+-- the fields in their order: the numbers, then the arrays
+abbrev pub serverFields : Server → List (List ℕ)
+serverFields s = serverNumbers s ∷ s .request .challenge ∷ s .request .octets ∷ []
 
 unfoldable pub octetsOfServer : Server → List ℕ
-octetsOfServer s = headOf s ++ bodyOf s
+octetsOfServer s = flatten (serverFields s)
 
 -- s is a value of the struct: its arrays have their sizes
 pub record IsServer (s : Server) : Type 0 where
-  pub challenge : length (s .challenge) ≡ 16
-  pub request : length (s .request) ≡ 282
+  pub challenge : length (s .request .challenge) ≡ 16
+  pub request : length (s .request .octets) ≡ requestRoom

@@ -5,20 +5,18 @@
 //   0 stage, 1 Identifier, 2 MS-CHAPv2-ID, 3 retries, 4 request length, 6 challenge, 22 request.
 ghost use mathlib.Core.Path.{_≡_};
 ghost use lib.ListN.{length, drop};
-ghost use Rattle.octets.specs.Lists.{sized, put};
+ghost use Rattle.octets.specs.Lists.{sized};
 ghost use Rattle.octets.specs.Octets.{numberAt};
 ghost use Rattle.octets.specs.declared.Order.the-variants.{Little};
 ghost use Rattle.state.specs.Stored.{stored};
-ghost use Rattle.state.specs.PeerOctets.{peerStageOf, peerStageNumber, peerOf, numbersOf, keysOf, arraysOf, octetsOfPeer};
-ghost use Rattle.state.specs.ServerOctets.{serverStageOf, serverStageNumber, serverOf, headOf, bodyOf, octetsOfServer};
+ghost use Rattle.state.specs.PeerOctets.{peerOctets, peerStageOf, peerStageNumber, peerOf, peerNumbers, octetsOfPeer};
+ghost use Rattle.state.specs.ServerOctets.{serverOctets, serverStageOf, serverStageNumber, serverOf, serverNumbers, octetsOfServer};
 use answer::ChapId;
 use answer::Identifier;
+use peer::Challenges;
+use peer::Credentials;
 use peer::Peer;
 use server::Server;
-
-pub const PEER_OCTETS: usize = 1647;
-
-pub const SERVER_OCTETS: usize = 304;
 
 // ---- fields
 // Fills dst with the octets of s from `at`, and zeros after them.
@@ -38,6 +36,20 @@ fn length_at(s: &[u8], at: u8) -> u16
 }
 
 // ---- the peer
+const HASH_AT: usize = 8;
+
+const AUTHENTICATOR_AT: usize = HASH_AT + 16;
+
+const OWN_AT: usize = AUTHENTICATOR_AT + 16;
+
+const NAME_AT: usize = OWN_AT + 16;
+
+const PEER_REQUEST_AT: usize = NAME_AT + Peer::MAX_NAME;
+
+const REPLY_AT: usize = PEER_REQUEST_AT + Peer::MAX_PACKET;
+
+pub const PEER_OCTETS: usize = REPLY_AT + Peer::REPLY_ROOM;
+
 fn peer_stage_of(n: u8) -> peer::Stage
     ensures { λ r. ⌜ r ≡ peerStageOf n ⌝ }
 {
@@ -71,17 +83,17 @@ pub fn decode_peer(state: &[u8]) -> Peer
     ensures { λ r. ⌜ r ≡ peerOf (now (state .entry)) ⌝ }
 {
     let mut hash = [0u8; 16];
-    field(&mut hash, state, 8);
-    let mut authchallenge = [0u8; 16];
-    field(&mut authchallenge, state, 24);
-    let mut peerchallenge = [0u8; 16];
-    field(&mut peerchallenge, state, 40);
-    let mut name = [0u8; 256];
-    field(&mut name, state, 56);
-    let mut request = [0u8; 1020];
-    field(&mut request, state, 312);
-    let mut reply = [0u8; 315];
-    field(&mut reply, state, 1332);
+    field(&mut hash, state, HASH_AT);
+    let mut authenticator = [0u8; 16];
+    field(&mut authenticator, state, AUTHENTICATOR_AT);
+    let mut own = [0u8; 16];
+    field(&mut own, state, OWN_AT);
+    let mut name = [0u8; Peer::MAX_NAME];
+    field(&mut name, state, NAME_AT);
+    let mut request = [0u8; Peer::MAX_PACKET];
+    field(&mut request, state, PEER_REQUEST_AT);
+    let mut reply = [0u8; Peer::REPLY_ROOM];
+    field(&mut reply, state, REPLY_AT);
     let stage = peer_stage_of(octets::octet(state, 0));
     let chapid = octets::octet(state, 1);
     let namelen = length_at(state, 2);
@@ -89,12 +101,16 @@ pub fn decode_peer(state: &[u8]) -> Peer
     let replylen = length_at(state, 6);
     Peer {
         stage,
-        name,
-        namelen,
-        hash,
-        authchallenge,
-        peerchallenge,
-        chapid: ChapId(chapid),
+        credentials: Credentials {
+            name,
+            namelen,
+            hash,
+        },
+        challenges: Challenges {
+            authenticator,
+            own,
+            chapid: ChapId(chapid),
+        },
         request,
         requestlen,
         reply,
@@ -102,16 +118,16 @@ pub fn decode_peer(state: &[u8]) -> Peer
     }
 }
 
-fn numbers(p: Peer) -> [u8; 8]
-    ensures { λ r. ⌜ r ≡ numbersOf p ⌝ }
+fn peer_numbers(p: Peer) -> [u8; 8]
+    ensures { λ r. ⌜ r ≡ peerNumbers p ⌝ }
 {
     let stage = p.stage;
-    let chapid = p.chapid;
+    let chapid = p.challenges.chapid;
     [
         peer_stage_number(stage),
         chapid.0,
-        (p.namelen % 256) as u8,
-        (p.namelen / 256) as u8,
+        (p.credentials.namelen % 256) as u8,
+        (p.credentials.namelen / 256) as u8,
         (p.requestlen % 256) as u8,
         (p.requestlen / 256) as u8,
         (p.replylen % 256) as u8,
@@ -119,44 +135,30 @@ fn numbers(p: Peer) -> [u8; 8]
     ]
 }
 
-fn put_keys(p: Peer, state: &mut [u8])
-    requires { ⌜ length (now state) ≡ 1647 ⌝ }
-    ensures { λ r. ⌜ now (state .exit) ≡ put (now (state .entry)) 8 (keysOf p) ⌝ }
-{
-    let hash = p.hash;
-    octets::put_at(state, 8, &hash);
-    let authchallenge = p.authchallenge;
-    octets::put_at(state, 24, &authchallenge);
-    let peerchallenge = p.peerchallenge;
-    octets::put_at(state, 40, &peerchallenge);
-}
-
-fn put_arrays(p: Peer, state: &mut [u8])
-    requires { ⌜ length (now state) ≡ 1647 ⌝ }
-    ensures { λ r. ⌜ now (state .exit) ≡ put (now (state .entry)) 56 (arraysOf p) ⌝ }
-{
-    let name = p.name;
-    octets::put_at(state, 56, &name);
-    let request = p.request;
-    octets::put_at(state, 312, &request);
-    let reply = p.reply;
-    octets::put_at(state, 1332, &reply);
-}
-
 // Writes a peer's octets, where there is room for just these.
 pub fn encode_peer(p: Peer, state: &mut [u8])
-    ensures { λ r. ⌜ now (state .exit) ≡ stored 1647 (octetsOfPeer p) (now (state .entry)) ⌝ }
+    ensures { λ r. ⌜ now (state .exit) ≡ stored peerOctets (octetsOfPeer p) (now (state .entry)) ⌝ }
 {
     if state.len() != PEER_OCTETS {
         return;
     }
-    let head = numbers(p);
-    octets::put_at(state, 0, &head);
-    put_keys(p, state);
-    put_arrays(p, state);
+    let numbers = peer_numbers(p);
+    let at = octets::append(state, 0, &numbers);
+    let at = octets::append(state, at, &p.credentials.hash);
+    let at = octets::append(state, at, &p.challenges.authenticator);
+    let at = octets::append(state, at, &p.challenges.own);
+    let at = octets::append(state, at, &p.credentials.name);
+    let at = octets::append(state, at, &p.request);
+    octets::append(state, at, &p.reply);
 }
 
 // ---- the server
+const CHALLENGE_AT: usize = 6;
+
+const SERVER_REQUEST_AT: usize = CHALLENGE_AT + 16;
+
+pub const SERVER_OCTETS: usize = SERVER_REQUEST_AT + Server::REQUEST_ROOM;
+
 fn server_stage_of(n: u8) -> server::Stage
     ensures { λ r. ⌜ r ≡ serverStageOf n ⌝ }
 {
@@ -188,9 +190,9 @@ pub fn decode_server(state: &[u8]) -> Server
     ensures { λ r. ⌜ r ≡ serverOf (now (state .entry)) ⌝ }
 {
     let mut challenge = [0u8; 16];
-    field(&mut challenge, state, 6);
-    let mut request = [0u8; 282];
-    field(&mut request, state, 22);
+    field(&mut challenge, state, CHALLENGE_AT);
+    let mut request = [0u8; Server::REQUEST_ROOM];
+    field(&mut request, state, SERVER_REQUEST_AT);
     let stage = server_stage_of(octets::octet(state, 0));
     let id = octets::octet(state, 1);
     let chapid = octets::octet(state, 2);
@@ -198,49 +200,42 @@ pub fn decode_server(state: &[u8]) -> Server
     let requestlen = length_at(state, 4);
     Server {
         stage,
-        id: Identifier(id),
-        chapid: ChapId(chapid),
-        challenge,
         retries,
-        request,
-        requestlen,
+        request: server::Request {
+            id: Identifier(id),
+            chapid: ChapId(chapid),
+            challenge,
+            octets: request,
+            len: requestlen,
+        },
     }
 }
 
-fn head(s: Server) -> [u8; 6]
-    ensures { λ r. ⌜ r ≡ headOf s ⌝ }
+fn server_numbers(s: Server) -> [u8; 6]
+    ensures { λ r. ⌜ r ≡ serverNumbers s ⌝ }
 {
     let stage = s.stage;
-    let id = s.id;
-    let chapid = s.chapid;
+    let id = s.request.id;
+    let chapid = s.request.chapid;
     [
         server_stage_number(stage),
         id.0,
         chapid.0,
         s.retries,
-        (s.requestlen % 256) as u8,
-        (s.requestlen / 256) as u8,
+        (s.request.len % 256) as u8,
+        (s.request.len / 256) as u8,
     ]
-}
-
-fn put_body(s: Server, state: &mut [u8])
-    requires { ⌜ length (now state) ≡ 304 ⌝ }
-    ensures { λ r. ⌜ now (state .exit) ≡ put (now (state .entry)) 6 (bodyOf s) ⌝ }
-{
-    let challenge = s.challenge;
-    octets::put_at(state, 6, &challenge);
-    let request = s.request;
-    octets::put_at(state, 22, &request);
 }
 
 // Writes a server's octets, where there is room for just these.
 pub fn encode_server(s: Server, state: &mut [u8])
-    ensures { λ r. ⌜ now (state .exit) ≡ stored 304 (octetsOfServer s) (now (state .entry)) ⌝ }
+    ensures { λ r. ⌜ now (state .exit) ≡ stored serverOctets (octetsOfServer s) (now (state .entry)) ⌝ }
 {
     if state.len() != SERVER_OCTETS {
         return;
     }
-    let first = head(s);
-    octets::put_at(state, 0, &first);
-    put_body(s, state);
+    let numbers = server_numbers(s);
+    let at = octets::append(state, 0, &numbers);
+    let at = octets::append(state, at, &s.request.challenge);
+    octets::append(state, at, &s.request.octets);
 }

@@ -6,34 +6,31 @@ use mathlib.Core.Bool.{Bool, true, false, not}
 use lib.ListN.{length}
 use borrow.Author.Tests.{not-false}
 use Rattle.octets.specs.Octets.{same}
+use Rattle.answer.specs.Sizes.{maxName}
 use Rattle.octets.proofs.Exits.{pick-true, pick-false}
 use Rattle.mschap.specs.declared.NtResponse.{NtResponse}
 use Rattle.mschap.specs.Responses.{ntResponse, authenticatorOf}
 use Rattle.mschap.proofs.Responses.{nt-response-octets}
 use Rattle.mschap.specs.Answers.{toldNtResponse, ntResponseTold}
-use Rattle.verdict.specs.Verdict.{wrong, right, weighed, weighedAs}
+use Rattle.verdict.specs.Verdict.{wrong, right, weighed}
 
 pub nt-computed : (challenge peer response user hash : List ℕ) (x : NtResponse) (r : Bool) → toldNtResponse x ≡ ntResponseTold challenge peer user hash → r ≡ same (x .octets) response
-    → length user ≤ 256 → r ≡ same (ntResponse challenge peer user hash) response
+    → length user ≤ maxName → r ≡ same (ntResponse challenge peer user hash) response
 nt-computed challenge peer response user hash x r e h l = h ∙ ap (λ (o : List ℕ). same o response) (nt-response-octets x challenge peer user hash e l)
 
 -- ---- weighing
 pub known-so : {A : Type 0} (known : Bool) → (known ≡ true → A) → not known ≡ false → A
 known-so known f k = f (not-false known k)
 
-module _ (known computed : Bool) (code : ℕ) (hash challenge peer response user : List ℕ) (short : known ≡ true → length user ≤ 256) (k : not known ≡ false) where
-  weighed-as : weighedAs known code hash challenge peer response user ≡ weighed code hash challenge peer response user
-  unfolding weighedAs
-  weighed-as = pick-false _ _ _ k
+module _ (known computed : Bool) (code : ℕ) (hash challenge peer response user : List ℕ) (short : known ≡ true → length user ≤ maxName) (k : not known ≡ false)
+    (is : length user ≤ maxName → computed ≡ same (ntResponse challenge peer user hash) response) where
+  compared : not (same (ntResponse challenge peer user hash) response) ≡ not computed
+  compared = ap not (sym (is (known-so known short k)))
 
-  module _ (is : length user ≤ 256 → computed ≡ same (ntResponse challenge peer user hash) response) where
-    compared : not (same (ntResponse challenge peer user hash) response) ≡ not computed
-    compared = ap not (sym (is (known-so known short k)))
+  pub weigh-wrong : not computed ≡ true → wrong ≡ weighed known code hash challenge peer response user
+  unfolding weighed
+  weigh-wrong n = sym (pick-false _ _ _ k ∙ pick-true _ _ _ (compared ∙ n))
 
-    pub weigh-wrong : not computed ≡ true → wrong ≡ weighedAs known code hash challenge peer response user
-    unfolding weighed
-    weigh-wrong n = sym (weighed-as ∙ pick-true _ _ _ (compared ∙ n))
-
-    pub weigh-right : (string : List ℕ) → not computed ≡ false → string ≡ authenticatorOf hash response peer challenge user → right code string ≡ weighedAs known code hash challenge peer response user
-    unfolding weighed
-    weigh-right string n e = ap (right code) e ∙ sym (weighed-as ∙ pick-false _ _ _ (compared ∙ n))
+  pub weigh-right : (string : List ℕ) → not computed ≡ false → string ≡ authenticatorOf hash response peer challenge user → right code string ≡ weighed known code hash challenge peer response user
+  unfolding weighed
+  weigh-right string n e = ap (right code) e ∙ sym (pick-false _ _ _ k ∙ pick-false _ _ _ (compared ∙ n))

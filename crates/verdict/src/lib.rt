@@ -4,8 +4,10 @@ ghost use mathlib.Core.Bool.{true};
 ghost use Prim.Native.Nat.{_+_, _≤_};
 ghost use lib.ListN.{length};
 ghost use Rattle.octets.specs.Octets.{same};
+ghost use Rattle.answer.specs.Sizes.{maxName};
 ghost use Rattle.mschap.specs.Responses.{ntResponse, authenticatorOf};
-ghost use Rattle.verdict.specs.Verdict.{hashAt, weighedAs, judgeUser, judgeOf};
+ghost use Rattle.octets.specs.Lists.{part};
+ghost use Rattle.verdict.specs.Verdict.{weighed, judgeUser, judgeOf};
 use accounts::Found;
 
 // Malformed is the mark of a table, Wrong and Right are marks of a Response.
@@ -42,7 +44,7 @@ fn is_computed(
     user: &[u8],
     hash: [u8; 16],
 ) -> bool
-    ensures { λ r. ⌜ (length (now (user .entry)) ≤ 256 → r ≡ same (ntResponse challenge peer (now (user .entry)) hash) response) ⌝ }
+    ensures { λ r. ⌜ (length (now (user .entry)) ≤ maxName → r ≡ same (ntResponse challenge peer (now (user .entry)) hash) response) ⌝ }
 {
     let own = mschap::nt_response(challenge, peer, user, hash);
     let octets = own.octets;
@@ -57,7 +59,7 @@ fn string_of(
     response: [u8; 24],
     user: &[u8],
 ) -> [u8; 20]
-    requires { ⌜ length (now user) ≤ 256 ⌝ }
+    requires { ⌜ length (now user) ≤ maxName ⌝ }
     ensures { λ r. ⌜ r ≡ authenticatorOf hash response peer challenge (now (user .entry)) ⌝ }
 {
     let made = mschap::authenticator_string(hash, response, peer, challenge, user);
@@ -74,8 +76,8 @@ fn weigh(
     response: [u8; 24],
     user: &[u8],
 ) -> Verdict
-    requires { ⌜ (known ≡ true → length (now user) ≤ 256) ⌝ }
-    ensures { λ r. ⌜ r ≡ weighedAs known code hash challenge peer response (now (user .entry)) ⌝ }
+    requires { ⌜ (known ≡ true → length (now user) ≤ maxName) ⌝ }
+    ensures { λ r. ⌜ r ≡ weighed known code hash challenge peer response (now (user .entry)) ⌝ }
 {
     let computed = is_computed(challenge, peer, response, user, hash);
     if !known {
@@ -95,7 +97,7 @@ fn weigh(
 // The hash at a place.
 fn hash_at(table: &[u8], place: usize) -> [u8; 16]
     requires { ⌜ place + 16 ≤ length (now table) ⌝ }
-    ensures { λ r. ⌜ r ≡ hashAt (now (table .entry)) place ⌝ }
+    ensures { λ r. ⌜ r ≡ part (now (table .entry)) place 16 ⌝ }
 {
     packet::sixteen_at(table, place)
 }
@@ -109,8 +111,8 @@ fn weigh_account(
     user: &[u8],
     table: &[u8],
 ) -> Verdict
-    requires { ⌜ (length (now user) ≤ 256) × (place + 16 ≤ length (now table)) ⌝ }
-    ensures { λ r. ⌜ r ≡ weighedAs true code (hashAt (now (table .entry)) place) challenge peer response (now (user .entry)) ⌝ }
+    requires { ⌜ (length (now user) ≤ maxName) × (place + 16 ≤ length (now table)) ⌝ }
+    ensures { λ r. ⌜ r ≡ weighed true code (part (now (table .entry)) place 16) challenge peer response (now (user .entry)) ⌝ }
 {
     let hash = hash_at(table, place);
     weigh(true, code, hash, challenge, peer, response, user)

@@ -12,13 +12,14 @@ use Rattle.octets.specs.Lists.{cells, over}
 use Rattle.octets.specs.Octets.{AreOctets, hexAt, decimal}
 use Rattle.octets.proofs.Exits.{pick-true, pick-false, both, tested}
 use Rattle.answer.specs.Outcome.{gives, Outcome, outcome, refused, fitting, Does}
+use Rattle.answer.specs.Sizes.{maxPacket}
 use Rattle.answer.proofs.Outcomes.{fitting-so}
 use Rattle.packet.specs.declared.End.{End}
 use Rattle.packet.specs.declared.End.the-variants.{Peer, Server}
 use Rattle.packet.specs.declared.Kind.the-variants.{Challenge, Response, SuccessRequest, SuccessResponse, FailureResponse, EapSuccess, EapFailure}
 use Rattle.packet.specs.declared.Packet.{Packet}
-use Rattle.packet.specs.Reader.{readPacket, reading, place, nowhere, at, failureOf}
-use Rattle.packet.specs.Forms.{challengePacket, responsePacket, successRequest, failureRequest}
+use Rattle.packet.specs.Reader.{challengePlace, ntResponsePlace, stringPlace, readPacket, reading, place, nowhere, at, failureOf}
+use Rattle.packet.specs.Forms.{challengeNameAt, responseNameAt, successTextAt, challengePacket, responsePacket, successRequest, failureRequest}
 use Rattle.packet.proofs.Sizes.{length-challengePacket, length-successRequest, length-failureRequest}
 use Rattle.packet.proofs.Back.{Back, challenge-back, response-back, success-request-back, failure-request-back, success-response-back, failure-response-back, eap-success-back, eap-failure-back}
 use Rattle.writers.specs.Writers.{writing, writeChallenge, writeResponse, writeSuccessRequest, writeFailureRequest, writeSuccessResponse, writeFailureResponse, writeEapSuccess, writeEapFailure}
@@ -38,14 +39,14 @@ passed b k rest z e =
 
 pub record Takes (formed : Bool) (room : ℕ) (q : List ℕ) : Type 0 where
   pub form : formed ≡ true
-  pub most : length q ≤ 1020
+  pub most : length q ≤ maxPacket
   pub fits : length q ≤ room
 
 pub takes : (formed : Bool) (room : ℕ) (q : List ℕ) → writing formed room q .number ≡ 0 → Takes formed room q
 unfolding writing fitting
 takes formed room q e =
     let a = passed (not formed) 23 _ refl e in
-    let b = passed (ltb 1020 (length q)) 23 _ refl (a .1) in
+    let b = passed (ltb maxPacket (length q)) 23 _ refl (a .1) in
     let c = passed (ltb room (length q)) 20 _ refl (b .1) in
     record { form = not-false formed (a .0); most = ltb-false _ _ (b .0); fits = ltb-false _ _ (c .0) }
 
@@ -65,28 +66,28 @@ module _ (old after : List ℕ) (n : ℕ) where
       let pad = drop (length q) old in
       rw a (record { reads = b .reads pad; challenge-is = b .challenge-is pad; response-is = b .response-is pad; tail-is = b .tail-is pad })
 
-  pub challenge-trip : (id chapid : ℕ) (challenge name : List ℕ) → length challenge ≡ 16 → Does (writeChallenge id chapid challenge name (length old)) 0 n tt old after → ReadsBack Peer after (reading Challenge id chapid (26 + length name) 0 (place 10 16) nowhere (place 26 (length name))) challenge [] name
+  pub challenge-trip : (id chapid : ℕ) (challenge name : List ℕ) → length challenge ≡ 16 → Does (writeChallenge id chapid challenge name (length old)) 0 n tt old after → ReadsBack Peer after (reading Challenge id chapid (challengeNameAt + length name) 0 challengePlace nowhere (place challengeNameAt (length name))) challenge [] name
   challenge-trip id chapid challenge name e d =
       let u = takes _ (length old) (challengePacket id chapid challenge name) (sym (d .answered)) in
       let m = u .most in
       trip _ Peer _ _ _ _ _ (challenge-back id chapid challenge name e (leb-true _ _ (u .form)) (omega (arith, length-challengePacket id chapid challenge name e))) d
 
-  pub response-trip : (id chapid : ℕ) (peer response name : List ℕ) → length peer ≡ 16 → length response ≡ 24 → Does (writeResponse id chapid peer response name (length old)) 0 n tt old after → ReadsBack Server after (reading Response id chapid (59 + length name) 0 (place 10 16) (place 34 24) (place 59 (length name))) peer response name
+  pub response-trip : (id chapid : ℕ) (peer response name : List ℕ) → length peer ≡ 16 → length response ≡ 24 → Does (writeResponse id chapid peer response name (length old)) 0 n tt old after → ReadsBack Server after (reading Response id chapid (responseNameAt + length name) 0 challengePlace ntResponsePlace (place responseNameAt (length name))) peer response name
   response-trip id chapid peer response name e f d =
       let u = takes _ (length old) (responsePacket id chapid peer response name) (sym (d .answered)) in
       trip _ Server _ _ _ _ _ (response-back id chapid peer response name e f (leb-true _ _ (u .form))) d
 
-  pub success-request-trip : (id chapid : ℕ) (string text : List ℕ) → AreOctets string → Does (writeSuccessRequest id chapid string text (length old)) 0 n tt old after → ReadsBack Peer after (reading SuccessRequest id chapid (54 + length text) 0 nowhere (place 11 40) (place 54 (length text))) [] (cells 40 (hexAt string)) text
+  pub success-request-trip : (id chapid : ℕ) (string text : List ℕ) → AreOctets string → Does (writeSuccessRequest id chapid string text (length old)) 0 n tt old after → ReadsBack Peer after (reading SuccessRequest id chapid (successTextAt + length text) 0 nowhere stringPlace (place successTextAt (length text))) [] (cells 40 (hexAt string)) text
   success-request-trip id chapid string text o d =
       let m = takes _ (length old) (successRequest id chapid string text) (sym (d .answered)) .most in
       trip _ Peer _ _ _ _ _ (success-request-back id chapid string text o (omega (arith, length-successRequest id chapid string text))) d
 
-  pub failure-request-trip : (id chapid code retry : ℕ) (challenge text : List ℕ) → AreOctets challenge → Does (writeFailureRequest id chapid code retry challenge text (length old)) 0 n tt old after → ReadsBack Peer after (reading (failureOf retry) id chapid (57 + length (decimal code) + length text) code (place (18 + length (decimal code)) 32) nowhere (place (57 + length (decimal code)) (length text))) (cells 32 (hexAt challenge)) [] text
-  failure-request-trip id chapid code retry challenge text o d =
-      let u = takes _ (length old) (failureRequest id chapid code retry challenge text) (sym (d .answered)) in
+  pub failure-request-trip : (id chapid error retry : ℕ) (challenge text : List ℕ) → AreOctets challenge → Does (writeFailureRequest id chapid error retry challenge text (length old)) 0 n tt old after → ReadsBack Peer after (reading (failureOf retry) id chapid (57 + length (decimal error) + length text) error (place (18 + length (decimal error)) 32) nowhere (place (57 + length (decimal error)) (length text))) (cells 32 (hexAt challenge)) [] text
+  failure-request-trip id chapid error retry challenge text o d =
+      let u = takes _ (length old) (failureRequest id chapid error retry challenge text) (sym (d .answered)) in
       let m = u .most in
-      let f = both (leb code 9999999999) (leb retry 1) (u .form) in
-      trip _ Peer _ _ _ _ _ (failure-request-back id chapid code retry challenge text (leb-true _ _ (f .0)) (leb-true _ _ (f .1)) o (omega (arith, length-failureRequest id chapid code retry (length (decimal code)) challenge text refl))) d
+      let f = both (leb error 9999999999) (leb retry 1) (u .form) in
+      trip _ Peer _ _ _ _ _ (failure-request-back id chapid error retry challenge text (leb-true _ _ (f .0)) (leb-true _ _ (f .1)) o (omega (arith, length-failureRequest id chapid error retry (length (decimal error)) challenge text refl))) d
 
   pub success-response-trip : (id : ℕ) → Does (writeSuccessResponse id (length old)) 0 n tt old after → ReadsBack Server after (reading SuccessResponse id 0 6 0 nowhere nowhere nowhere) [] [] []
   success-response-trip id d = trip _ Server _ _ _ _ _ (success-response-back id) d

@@ -9,6 +9,7 @@ use borrow.Author.Tests.{lt-ltb, le-ltb, le-leb, lt-leb}
 use Rattle.octets.specs.Lists.{put, Appended}
 use Rattle.octets.proofs.Exits.{pick-true, pick-false, and-both, and-first, and-second}
 use Rattle.octets.proofs.Appends.{appended-front}
+use Rattle.answer.specs.Sizes.{maxPacket}
 use Rattle.answer.specs.Outcome.{outcome, refused, fitting, Does}
 use Rattle.answer.proofs.Outcomes.{does-by, does-written, does-not, fitting-so, fitting-not}
 use Rattle.writers.specs.Writers.{sends, writing}
@@ -26,22 +27,22 @@ pub no-form : (formed : Bool) (room k n : ℕ) (q b : List ℕ) → k ≡ 23 →
 unfolding writing
 no-form formed room k n q b e z f = does-by _ _ _ _ _ _ _ (nothing 23 k n b e z) (pick-true _ _ _ (ap not f))
 
-pub too-long : (formed : Bool) (room l k n : ℕ) (q b : List ℕ) → k ≡ 23 → n ≡ 0 → formed ≡ true → length q ≡ l → 1020 < l → Does (writing formed room q) k n tt b b
+pub too-long : (formed : Bool) (room l k n : ℕ) (q b : List ℕ) → k ≡ 23 → n ≡ 0 → formed ≡ true → length q ≡ l → maxPacket < l → Does (writing formed room q) k n tt b b
 unfolding writing
 too-long formed room l k n q b e z f s h =
-    let m : 1020 < length q = rw s h in
+    let m : maxPacket < length q = rw s h in
     does-by _ _ _ _ _ _ _ (nothing 23 k n b e z) (pick-false _ _ _ (ap not f) ∙ pick-true _ _ _ (lt-ltb _ _ m))
 
 -- the packet is one
-pub writing-so : (formed : Bool) (room : ℕ) (q : List ℕ) → formed ≡ true → length q ≤ 1020 → writing formed room q ≡ fitting room tt (outcome 0 q tt)
+pub writing-so : (formed : Bool) (room : ℕ) (q : List ℕ) → formed ≡ true → length q ≤ maxPacket → writing formed room q ≡ fitting room tt (outcome 0 q tt)
 unfolding writing
 writing-so formed room q f h = pick-false _ _ _ (ap not f) ∙ pick-false _ _ _ (le-ltb _ _ h)
 
-pub no-room : (formed : Bool) (l k n : ℕ) (q b : List ℕ) → k ≡ 20 → n ≡ 0 → formed ≡ true → length q ≡ l → l ≤ 1020 → length b < l → Does (writing formed (length b) q) k n tt b b
+pub no-room : (formed : Bool) (l k n : ℕ) (q b : List ℕ) → k ≡ 20 → n ≡ 0 → formed ≡ true → length q ≡ l → l ≤ maxPacket → length b < l → Does (writing formed (length b) q) k n tt b b
 no-room formed l k n q b e z f s h m =
     does-by _ _ _ _ _ _ _ (nothing 20 k n b e z) (writing-so formed (length b) q f (rw s h) ∙ fitting-not (length b) tt (outcome 0 q tt) (rw s m))
 
-pub all-written : (formed : Bool) (l k n m : ℕ) (q b after : List ℕ) → k ≡ 0 → n ≡ m → formed ≡ true → length q ≡ l → l ≤ 1020 → l ≤ length b → Appended b 0 q m after → Does (writing formed (length b) q) k n tt b after
+pub all-written : (formed : Bool) (l k n m : ℕ) (q b after : List ℕ) → k ≡ 0 → n ≡ m → formed ≡ true → length q ≡ l → l ≤ maxPacket → l ≤ length b → Appended b 0 q m after → Does (writing formed (length b) q) k n tt b after
 all-written formed l k n m q b after e i f s h r a =
     let room : length q ≤ length b = rw s r in
     let w = appended-front b q after m room a in

@@ -5,6 +5,7 @@ use mathlib.Core.Bool.{Bool, true, not, _&&_}
 use lib.ListN.{length}
 use lib.Dec.{ltb, leb}
 use Rattle.octets.specs.Choice.{pick}
+use Rattle.answer.specs.Sizes.{maxPacket, maxName}
 use Rattle.answer.specs.Outcome.{Outcome, outcome, refused, fitting}
 use Rattle.packet.specs.Forms.{challengePacket, responsePacket, successRequest, failureRequest, successResponse, failureResponse, eapSuccess, eapFailure}
 
@@ -16,7 +17,7 @@ sends room q = fitting room tt (outcome 0 q tt)
 unfoldable pub writing : Bool → ℕ → List ℕ → Outcome (Unit {0})
 writing formed room q =
     pick (not formed) (refused 23 tt)
-    (pick (ltb 1020 (length q)) (refused 23 tt)
+    (pick (ltb maxPacket (length q)) (refused 23 tt)
     (sends room q))
 
 -- a name of one octet or more
@@ -25,15 +26,15 @@ writeChallenge id chapid challenge name room = writing (leb 1 (length name)) roo
 
 -- a name of 0 to 256 octets
 abbrev pub writeResponse : ℕ → ℕ → List ℕ → List ℕ → List ℕ → ℕ → Outcome (Unit {0})
-writeResponse id chapid peer response name room = writing (leb (length name) 256) room (responsePacket id chapid peer response name)
+writeResponse id chapid peer response name room = writing (leb (length name) maxName) room (responsePacket id chapid peer response name)
 
 abbrev pub writeSuccessRequest : ℕ → ℕ → List ℕ → List ℕ → ℕ → Outcome (Unit {0})
 writeSuccessRequest id chapid string text room = writing true room (successRequest id chapid string text)
 
--- a code of 1 to 10 digits, and R 0 or 1
+-- E of 1 to 10 digits, and R 0 or 1
 abbrev pub writeFailureRequest : ℕ → ℕ → ℕ → ℕ → List ℕ → List ℕ → ℕ → Outcome (Unit {0})
-writeFailureRequest id chapid code retry challenge text room =
-    writing (leb code 9999999999 && leb retry 1) room (failureRequest id chapid code retry challenge text)
+writeFailureRequest id chapid error retry challenge text room =
+    writing (leb error 9999999999 && leb retry 1) room (failureRequest id chapid error retry challenge text)
 
 abbrev pub writeSuccessResponse : ℕ → ℕ → Outcome (Unit {0})
 writeSuccessResponse id room = writing true room (successResponse id)

@@ -7,7 +7,8 @@ ghost use Rattle.octets.specs.Lists.{Appended};
 ghost use Rattle.octets.specs.Octets.{decimal};
 ghost use Rattle.answer.specs.Answer.{refusalOf, numberOf};
 ghost use Rattle.answer.specs.Outcome.{Does};
-ghost use Rattle.packet.specs.Forms.{header, challengePacket, responsePacket, successRequest, failureRequest};
+ghost use Rattle.answer.specs.Sizes.{maxPacket};
+ghost use Rattle.packet.specs.Forms.{challengeNameAt, responseNameAt, successTextAt, header, challengePacket, responsePacket, successRequest, failureRequest};
 ghost use Rattle.writers.specs.Writers.{sends, writing, writeChallenge, writeResponse, writeSuccessRequest, writeFailureRequest, writeSuccessResponse, writeFailureResponse, writeEapSuccess, writeEapFailure};
 use answer::Answer;
 use answer::ChapId;
@@ -51,7 +52,7 @@ pub fn send(q: &[u8], out: &mut [u8]) -> Written
 
 // Writes octets that are a packet.
 fn write_whole(q: &[u8], out: &mut [u8]) -> Written
-    requires { ⌜ length (now q) ≤ 1020 ⌝ }
+    requires { ⌜ length (now q) ≤ maxPacket ⌝ }
     ensures { λ r. ⌜ Does (writing true (length (now (out .entry))) (now (q .entry))) (numberOf (r .answer)) (r .n) tt (now (out .entry)) (now (out .exit)) ⌝ }
 {
     send(q, out)
@@ -59,7 +60,7 @@ fn write_whole(q: &[u8], out: &mut [u8]) -> Written
 
 // The first nine octets of a packet with an MS-CHAPv2-ID.
 fn put_header(code: u8, op: u8, id: Identifier, chapid: ChapId, l: usize, out: &mut [u8]) -> usize
-    requires { ⌜ (5 ≤ l) × (l ≤ 1020) ⌝ }
+    requires { ⌜ (5 ≤ l) × (l ≤ maxPacket) ⌝ }
     ensures { λ r. ⌜ Appended (now (out .entry)) 0 (header code op (id .0) (chapid .0) l) r (now (out .exit)) ⌝ }
 {
     let m = l - 5;
@@ -84,10 +85,17 @@ fn put_challenge(
     name: &[u8],
     out: &mut [u8],
 ) -> usize
-    requires { ⌜ (length (now challenge) ≡ 16) × (26 + length (now name) ≤ 1020) × (26 + length (now name) ≤ length (now out)) ⌝ }
+    requires { ⌜ (length (now challenge) ≡ 16) × (challengeNameAt + length (now name) ≤ maxPacket) × (challengeNameAt + length (now name) ≤ length (now out)) ⌝ }
     ensures { λ r. ⌜ Appended (now (out .entry)) 0 (challengePacket (id .0) (chapid .0) (now (challenge .entry)) (now (name .entry))) r (now (out .exit)) ⌝ }
 {
-    let at = put_header(1, 1, id, chapid, 26 + name.len(), out);
+    let at = put_header(
+        1,
+        1,
+        id,
+        chapid,
+        packet::CHALLENGE_NAME_AT + name.len(),
+        out,
+    );
     let at = octets::append(out, at, &[16]);
     let at = octets::append(out, at, challenge);
     octets::append(out, at, name)
@@ -102,11 +110,11 @@ pub fn write_challenge(
 ) -> Written
     ensures { λ r. ⌜ Does (writeChallenge (id .0) (chapid .0) challenge (now (name .entry)) (length (now (out .entry)))) (numberOf (r .answer)) (r .n) tt (now (out .entry)) (now (out .exit)) ⌝ }
 {
-    let l = 26 + name.len();
+    let l = packet::CHALLENGE_NAME_AT + name.len();
     if name.len() < 1 {
         return refuse(Refusal::BadArgument);
     }
-    if 1020 < l {
+    if answer::MAX_PACKET < l {
         return refuse(Refusal::BadArgument);
     }
     if out.len() < l {
@@ -124,10 +132,10 @@ fn put_response(
     name: &[u8],
     out: &mut [u8],
 ) -> usize
-    requires { ⌜ (length (now peer) ≡ 16) × (length (now response) ≡ 24) × (59 + length (now name) ≤ 1020) × (59 + length (now name) ≤ length (now out)) ⌝ }
+    requires { ⌜ (length (now peer) ≡ 16) × (length (now response) ≡ 24) × (responseNameAt + length (now name) ≤ maxPacket) × (responseNameAt + length (now name) ≤ length (now out)) ⌝ }
     ensures { λ r. ⌜ Appended (now (out .entry)) 0 (responsePacket (id .0) (chapid .0) (now (peer .entry)) (now (response .entry)) (now (name .entry))) r (now (out .exit)) ⌝ }
 {
-    let at = put_header(2, 2, id, chapid, 59 + name.len(), out);
+    let at = put_header(2, 2, id, chapid, packet::RESPONSE_NAME_AT + name.len(), out);
     let at = octets::append(out, at, &[49]);
     let at = octets::append(out, at, peer);
     let at = octets::append(out, at, &[0, 0, 0, 0, 0, 0, 0, 0]);
@@ -146,10 +154,10 @@ pub fn write_response(
 ) -> Written
     ensures { λ r. ⌜ Does (writeResponse (id .0) (chapid .0) peer response (now (name .entry)) (length (now (out .entry)))) (numberOf (r .answer)) (r .n) tt (now (out .entry)) (now (out .exit)) ⌝ }
 {
-    if 256 < name.len() {
+    if answer::MAX_NAME < name.len() {
         return refuse(Refusal::BadArgument);
     }
-    if out.len() < 59 + name.len() {
+    if out.len() < packet::RESPONSE_NAME_AT + name.len() {
         return refuse(Refusal::NoRoom);
     }
     let n = put_response(id, chapid, &peer, &response, name, out);
@@ -157,10 +165,10 @@ pub fn write_response(
 }
 
 fn put_success(id: Identifier, chapid: ChapId, string: &[u8], text: &[u8], out: &mut [u8]) -> usize
-    requires { ⌜ (54 + length (now text) ≤ 1020) × (54 + length (now text) ≤ length (now out)) ⌝ }
+    requires { ⌜ (successTextAt + length (now text) ≤ maxPacket) × (successTextAt + length (now text) ≤ length (now out)) ⌝ }
     ensures { λ r. ⌜ Appended (now (out .entry)) 0 (successRequest (id .0) (chapid .0) (now (string .entry)) (now (text .entry))) r (now (out .exit)) ⌝ }
 {
-    let at = put_header(1, 3, id, chapid, 54 + text.len(), out);
+    let at = put_header(1, 3, id, chapid, packet::SUCCESS_TEXT_AT + text.len(), out);
     let at = octets::append(out, at, b"S=");
     let at = octets::append_hex(out, at, 40, string);
     let at = octets::append(out, at, b" M=");
@@ -176,8 +184,8 @@ pub fn write_success_request(
 ) -> Written
     ensures { λ r. ⌜ Does (writeSuccessRequest (id .0) (chapid .0) string (now (text .entry)) (length (now (out .entry)))) (numberOf (r .answer)) (r .n) tt (now (out .entry)) (now (out .exit)) ⌝ }
 {
-    let l = 54 + text.len();
-    if 1020 < l {
+    let l = packet::SUCCESS_TEXT_AT + text.len();
+    if answer::MAX_PACKET < l {
         return refuse(Refusal::BadArgument);
     }
     if out.len() < l {
@@ -190,19 +198,19 @@ pub fn write_success_request(
 fn put_failure(
     id: Identifier,
     chapid: ChapId,
-    code: u64,
+    error: u64,
     retry: u8,
     challenge: &[u8],
     text: &[u8],
     l: usize,
     out: &mut [u8],
 ) -> usize
-    requires { ⌜ (l ≡ 57 + length (decimal code) + length (now text)) × (retry ≤ 1) × (l ≤ 1020) × (l ≤ length (now out)) ⌝ }
-    ensures { λ r. ⌜ Appended (now (out .entry)) 0 (failureRequest (id .0) (chapid .0) code retry (now (challenge .entry)) (now (text .entry))) r (now (out .exit)) ⌝ }
+    requires { ⌜ (l ≡ 57 + length (decimal error) + length (now text)) × (retry ≤ 1) × (l ≤ maxPacket) × (l ≤ length (now out)) ⌝ }
+    ensures { λ r. ⌜ Appended (now (out .entry)) 0 (failureRequest (id .0) (chapid .0) error retry (now (challenge .entry)) (now (text .entry))) r (now (out .exit)) ⌝ }
 {
     let at = put_header(1, 4, id, chapid, l, out);
     let at = octets::append(out, at, b"E=");
-    let at = octets::append_decimal(out, at, code);
+    let at = octets::append_decimal(out, at, error);
     let at = octets::append(out, at, b" R=");
     let at = octets::append(out, at, &[48 + retry]);
     let at = octets::append(out, at, b" C=");
@@ -214,28 +222,28 @@ fn put_failure(
 pub fn write_failure_request(
     id: Identifier,
     chapid: ChapId,
-    code: u64,
+    error: u64,
     retry: u8,
     challenge: [u8; 16],
     text: &[u8],
     out: &mut [u8],
 ) -> Written
-    ensures { λ r. ⌜ Does (writeFailureRequest (id .0) (chapid .0) code retry challenge (now (text .entry)) (length (now (out .entry)))) (numberOf (r .answer)) (r .n) tt (now (out .entry)) (now (out .exit)) ⌝ }
+    ensures { λ r. ⌜ Does (writeFailureRequest (id .0) (chapid .0) error retry challenge (now (text .entry)) (length (now (out .entry)))) (numberOf (r .answer)) (r .n) tt (now (out .entry)) (now (out .exit)) ⌝ }
 {
-    if 9999999999 < code {
+    if 9999999999 < error {
         return refuse(Refusal::BadArgument);
     }
     if 1 < retry {
         return refuse(Refusal::BadArgument);
     }
-    let l = 57 + octets::decimal_len(code) + text.len();
-    if 1020 < l {
+    let l = 57 + octets::decimal_len(error) + text.len();
+    if answer::MAX_PACKET < l {
         return refuse(Refusal::BadArgument);
     }
     if out.len() < l {
         return refuse(Refusal::NoRoom);
     }
-    let n = put_failure(id, chapid, code, retry, &challenge, text, l, out);
+    let n = put_failure(id, chapid, error, retry, &challenge, text, l, out);
     done(n)
 }
 

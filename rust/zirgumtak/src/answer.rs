@@ -42,7 +42,7 @@ impl<'b> Answer<'b> {
 #[repr(u8)]
 pub enum Refusal {
     /// Fewer than 4 octets lent.
-    Fragment = 10,
+    Short = 10,
     /// Length under 4 or over the octets lent.
     BadLength = 11,
     /// Length over 1,020.
@@ -74,7 +74,7 @@ pub enum Refusal {
 impl Refusal {
     /// All of them, in the order of their numbers.
     pub const ALL: [Refusal; 14] = [
-        Refusal::Fragment,
+        Refusal::Short,
         Refusal::BadLength,
         Refusal::TooLong,
         Refusal::BadCode,
@@ -97,7 +97,7 @@ impl Refusal {
 
     fn words(self) -> &'static str {
         match self {
-            Refusal::Fragment => "fewer than 4 octets lent",
+            Refusal::Short => "fewer than 4 octets lent",
             Refusal::BadLength => "Length under 4 or over the octets lent",
             Refusal::TooLong => "Length over 1,020",
             Refusal::BadCode => "Code not for this end",

@@ -155,7 +155,7 @@ fn refusals() {
     assert_eq!(PasswordHash::of_units(&[0; 257]), Err(Refusal::BadArgument));
     assert!(PasswordHash::of_units(&[0; 256]).is_ok());
     assert_eq!(md4(&[0; 65_537]), Err(Refusal::BadArgument));
-    assert_eq!(read(End::Peer, &[]), Err(Refusal::Fragment));
+    assert_eq!(read(End::Peer, &[]), Err(Refusal::Short));
     assert_eq!(read(End::Server, &[3, 5, 0, 4]), Err(Refusal::BadCode));
     assert_eq!(accounts_check(&[0]), Err(Refusal::BadTable));
     assert_eq!(accounts_check(&table()), Ok(()));

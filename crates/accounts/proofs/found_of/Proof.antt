@@ -1,6 +1,4 @@
-use Rattle.accounts.specs.declared.Lookup.{Lookup}
-use Rattle.answer.specs.Outcome.{gives}
-use Rattle.octets.proofs.Exits.{exits, told}
+use Rattle.octets.proofs.Exits.{exits}
 use Rattle.accounts.proofs.found_of.Statement.{statement}
 use Rattle.accounts.proofs.found_of.Tie as tie
 
@@ -8,7 +6,5 @@ pub found-of-spec : {M : Type 1} → statement M
 found-of-spec =
     tie.close
     (tie.spec
-    (λ c. search (exits, told (gives {A = Lookup})))
-    (λ c. search (exits, told (gives {A = Lookup})))
-    (λ c. search (exits, told (gives {A = Lookup})))
-    (λ c. search (exits, told (gives {A = Lookup}))))
+    (λ c. search exits)
+    (λ c. search exits))

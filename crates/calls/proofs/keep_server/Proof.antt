@@ -1,4 +1,4 @@
-use Rattle.calls.proofs.Laws.{keeps-so, keeps-not}
+use Rattle.calls.proofs.Laws.{encoded-so, encoded-not}
 use borrow.Author.Needs.{needs}
 use Rattle.calls.proofs.keep_server.Statement.{statement}
 use Rattle.calls.proofs.keep_server.Tie as tie
@@ -11,6 +11,6 @@ keep-server-spec =
     (λ c κs. search needs)
     (λ c κs. search needs)
     (λ c. search needs)
-    (λ c. search (needs, keeps-so))
+    (λ c. search (needs, encoded-so))
     (λ c κs. search needs)
-    (λ c. search (needs, keeps-not)))
+    (λ c. search (needs, encoded-not)))

@@ -1,10 +1,8 @@
-use Rattle.packet.specs.Reader.{chapRead}
 use borrow.Author.Needs.{needs}
 use Rattle.packet.proofs.chap_read.Statement.{statement}
 use Rattle.packet.proofs.chap_read.Tie as tie
 
 pub chap-read-spec : {M : Type 1} → statement M
-unfolding chapRead
 chap-read-spec =
     tie.close
     (tie.spec

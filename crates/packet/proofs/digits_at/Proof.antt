@@ -1,3 +1,4 @@
+use Rattle.packet.proofs.Steps.{counted}
 use borrow.Author.Needs.{needs}
 use Rattle.packet.proofs.digits_at.Statement.{statement}
 use Rattle.packet.proofs.digits_at.Tie as tie
@@ -8,4 +9,4 @@ digits-at-spec =
     (tie.spec
     (λ c κs. search needs)
     (λ c κs. search needs)
-    (λ c. cc))
+    (λ c. counted _ _ _ (cc) (search needs)))

@@ -1,4 +1,4 @@
-use Rattle.packet.specs.Reader.{failureRead}
+use Rattle.packet.specs.Inner.{failureRead}
 use borrow.Author.Needs.{needs}
 use Rattle.packet.proofs.failure_read.Statement.{statement}
 use Rattle.packet.proofs.failure_read.Tie as tie

@@ -1,4 +1,5 @@
 use Rattle.packet.specs.Reader.{readBare}
+use Rattle.packet.proofs.Steps.{bare-read}
 use Rattle.octets.proofs.Exits.{exits}
 use Rattle.packet.proofs.read_bare.Statement.{statement}
 use Rattle.packet.proofs.read_bare.Tie as tie
@@ -10,4 +11,4 @@ read-bare-spec =
     (tie.spec
     (λ c. search exits)
     (λ c κs. search exits)
-    (λ c. search exits))
+    (λ c. search (exits, bare-read)))

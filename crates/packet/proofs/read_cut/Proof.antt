@@ -1,16 +1,14 @@
-use Rattle.packet.specs.Reader.{readCut}
-use Rattle.octets.proofs.Exits.{exits}
+use Rattle.packet.proofs.Steps.{cut-by}
+use borrow.Author.Needs.{needs}
 use Rattle.packet.proofs.read_cut.Statement.{statement}
 use Rattle.packet.proofs.read_cut.Tie as tie
 
 pub read-cut-spec : {M : Type 1} → statement M
-unfolding readCut
 read-cut-spec =
     tie.close
     (tie.spec
-    (λ c. search exits)
-    (λ c. search exits)
-    (λ c. search exits)
-    (λ c κs. search exits)
-    (λ c κs. search exits)
-    (λ c. search (exits, ← c .before .part .ensures)))
+    (λ c κs. search needs)
+    (λ c κs. search needs)
+    (λ c κs. search needs)
+    (λ c κs. search needs)
+    (λ c. search (cut-by, needs)))

@@ -1,23 +1,16 @@
-use Rattle.packet.specs.Reader.{readResponse}
-use Rattle.octets.proofs.Exits.{exits}
+use Rattle.packet.specs.Reader.{chapRow, readResponse}
+use Rattle.octets.proofs.Exits.{exits, gave}
 use Rattle.packet.proofs.read_response.Statement.{statement}
 use Rattle.packet.proofs.read_response.Tie as tie
 
 pub read-response-spec : {M : Type 1} → statement M
-unfolding readResponse
+unfolding readResponse chapRow
 read-response-spec =
     tie.close
     (tie.spec
     (λ c κs. search exits)
-    (λ c. search exits)
-    (λ c. search exits)
-    (λ c. search exits)
+    (λ c. search (exits, gave))
     (λ c κs. search exits)
-    (λ c. search exits)
-    (λ c. search exits)
+    (λ c. search (exits, gave))
     (λ c κs. search exits)
-    (λ c. search exits)
-    (λ c κs. search exits)
-    (λ c. search exits)
-    (λ c κs. search exits)
-    (λ c. search exits))
+    (λ c. search (exits, gave)))

@@ -1,6 +1,6 @@
 use Rattle.answer.proofs.Outcomes.{does}
-use Rattle.peer.specs.Stored.{answerOf}
-use Rattle.peer.proofs.Replies.{answer-told, bare-sent}
+use Rattle.peer.specs.Calls.{answerOf}
+use Rattle.peer.proofs.Replies.{answer-told, bare-sent, said-so}
 use borrow.Author.Needs.{needs}
 use Rattle.peer.proofs.answer_to.Statement.{statement}
 use Rattle.peer.proofs.answer_to.Tie as tie
@@ -29,20 +29,20 @@ answer-to-spec =
     (λ c. search needs)
     (λ c κs. search needs)
     (λ c. search needs)
-    (λ c. search (does, answer-told, bare-sent))
+    (λ c. search (does, answer-told, bare-sent, said-so))
     (λ c. search needs)
-    (λ c. search (does, answer-told, bare-sent))
+    (λ c. search (does, answer-told, bare-sent, said-so))
     (λ c. search needs)
-    (λ c. search (does, answer-told, bare-sent))
+    (λ c. search (does, answer-told, bare-sent, said-so))
     (λ c. search needs)
-    (λ c. search (does, answer-told, bare-sent))
+    (λ c. search (does, answer-told, bare-sent, said-so))
     (λ c. search needs)
-    (λ c. search (does, answer-told, bare-sent))
+    (λ c. search (does, answer-told, bare-sent, said-so))
     (λ c. search needs)
-    (λ c. search (does, answer-told, bare-sent))
+    (λ c. search (does, answer-told, bare-sent, said-so))
     (λ c. search needs)
-    (λ c. search (does, answer-told, bare-sent))
+    (λ c. search (does, answer-told, bare-sent, said-so))
     (λ c. search needs)
-    (λ c. search (does, answer-told, bare-sent))
+    (λ c. search (does, answer-told, bare-sent, said-so))
     (λ c. search needs)
-    (λ c. search (does, answer-told, bare-sent)))
+    (λ c. search (does, answer-told, bare-sent, said-so)))

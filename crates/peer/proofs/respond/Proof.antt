@@ -1,5 +1,5 @@
 use Rattle.answer.proofs.Outcomes.{does-by}
-use Rattle.peer.specs.Calls.{challengeIn}
+use Rattle.packet.specs.Reader.{challengeIn}
 use borrow.Author.Needs.{needs}
 use Rattle.peer.proofs.respond.Statement.{statement}
 use Rattle.peer.proofs.respond.Tie as tie

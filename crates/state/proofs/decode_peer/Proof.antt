@@ -1,9 +1,11 @@
-use Rattle.state.proofs.Trips.{peer-read}
+use Rattle.state.specs.PeerOctets.{peerOf}
+use Rattle.state.proofs.Trips.{same-peer, stage-read}
 use borrow.Author.Needs.{needs}
 use Rattle.state.proofs.decode_peer.Statement.{statement}
 use Rattle.state.proofs.decode_peer.Tie as tie
 
 pub decode-peer-spec : {M : Type 1} → statement M
+unfolding peerOf
 decode-peer-spec =
     tie.close
     (tie.spec
@@ -25,4 +27,4 @@ decode-peer-spec =
     (λ c κs. search needs)
     (λ c κs. search needs)
     (λ c κs. search needs)
-    (λ c. search (needs, peer-read)))
+    (λ c. search (needs, same-peer, stage-read)))

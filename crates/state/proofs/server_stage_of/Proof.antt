@@ -1,4 +1,6 @@
+use native.Mathlib.Omega.{arith}
 use Rattle.state.specs.ServerOctets.{serverStageOf}
+use Rattle.state.proofs.Trips.{server-other}
 use Rattle.octets.proofs.Exits.{wide}
 use Rattle.state.proofs.server_stage_of.Statement.{statement}
 use Rattle.state.proofs.server_stage_of.Tie as tie
@@ -13,4 +15,4 @@ server-stage-of-spec =
     (λ c. search wide)
     (λ c. search wide)
     (λ c. search wide)
-    (λ c. search wide))
+    (λ c. server-other (c .before .args .n) (omega arith)))

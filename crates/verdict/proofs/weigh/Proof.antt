@@ -1,12 +1,12 @@
 use Rattle.octets.proofs.Exits.{exits}
 use Rattle.verdict.proofs.Arithmetic.{weigh-wrong, weigh-right, known-so}
-use Rattle.verdict.specs.Verdict.{weighedAs}
+use Rattle.verdict.specs.Verdict.{weighed}
 use borrow.Author.Needs.{needs}
 use Rattle.verdict.proofs.weigh.Statement.{statement}
 use Rattle.verdict.proofs.weigh.Tie as tie
 
 pub weigh-spec : {M : Type 1} → statement M
-unfolding weighedAs
+unfolding weighed
 weigh-spec =
     tie.close
     (tie.spec

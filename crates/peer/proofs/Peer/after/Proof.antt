@@ -1,11 +1,12 @@
-use Rattle.peer.specs.Stored.{leftBy}
-use Rattle.peer.proofs.Replies.{left-told}
+use Rattle.octets.specs.Choice.{pick}
+use Rattle.peer.specs.Calls.{leftBy}
+use Rattle.peer.proofs.Replies.{left-told, left-refused}
 use borrow.Author.Needs.{needs}
 use Rattle.peer.proofs.Peer.after.Statement.{statement}
 use Rattle.peer.proofs.Peer.after.Tie as tie
 
 pub after-spec : {M : Type 1} → statement M
-unfolding leftBy
+unfolding leftBy pick
 after-spec =
     tie.close
     (tie.spec
@@ -22,4 +23,4 @@ after-spec =
     (λ c. search (needs, left-told))
     (λ c. search (needs, left-told))
     (λ c. search (needs, left-told))
-    (λ c. search (needs, left-told)))
+    (λ c. search (needs, left-refused)))

@@ -1,5 +1,5 @@
+use Rattle.packet.specs.Reader.{challengeIn}
 use Rattle.peer.specs.State.{responded}
-use Rattle.peer.specs.Calls.{challengeIn}
 use borrow.Author.Needs.{needs}
 use Rattle.peer.proofs.Peer.responded.Statement.{statement}
 use Rattle.peer.proofs.Peer.responded.Tie as tie
@@ -10,10 +10,5 @@ responded-spec =
     tie.close
     (tie.spec
     (λ c κs. search needs)
-    (λ c. search needs)
     (λ c κs. search needs)
-    (λ c. search needs)
-    (λ c κs. search needs)
-    (λ c. search needs)
-    (λ c. search needs)
     (λ c. cc))

@@ -1,11 +1,10 @@
-use Rattle.peer.specs.Stored.{resumedBy}
-use Rattle.peer.proofs.Replies.{resumed-told}
+use Rattle.answer.proofs.Told.{refusal-some}
+use Rattle.peer.proofs.Replies.{resumed-so, resumed-not}
 use borrow.Author.Needs.{needs}
 use Rattle.peer.proofs.Peer.resumed.Statement.{statement}
 use Rattle.peer.proofs.Peer.resumed.Tie as tie
 
 pub resumed-spec : {M : Type 1} → statement M
-unfolding resumedBy
 resumed-spec =
     tie.close
     (tie.spec
@@ -15,8 +14,8 @@ resumed-spec =
     (λ c. search needs)
     (λ c. search needs)
     (λ c. search needs)
-    (λ c. search (needs, resumed-told))
-    (λ c. search (needs, resumed-told))
-    (λ c. search (needs, resumed-told))
-    (λ c. search (needs, resumed-told))
-    (λ c. search (needs, resumed-told)))
+    (λ c. search (needs, resumed-so, resumed-not, refusal-some))
+    (λ c. search (needs, resumed-so, resumed-not, refusal-some))
+    (λ c. search (needs, resumed-so, resumed-not, refusal-some))
+    (λ c. search (needs, resumed-so, resumed-not, refusal-some))
+    (λ c. search (needs, resumed-so, resumed-not, refusal-some)))

@@ -1,6 +1,6 @@
 use Rattle.answer.proofs.Outcomes.{does-by}
 use Rattle.peer.specs.Calls.{stepOf}
-use Rattle.peer.proofs.Readings.{read-within}
+use Rattle.packet.proofs.Readings.{read-within}
 use borrow.Author.Needs.{needs}
 use Rattle.peer.proofs.Peer.step.Statement.{statement}
 use Rattle.peer.proofs.Peer.step.Tie as tie

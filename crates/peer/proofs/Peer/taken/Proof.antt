@@ -2,6 +2,7 @@ use Prim.Native.Nat.{_≤_}
 use mathlib.Core.Path.{_≡_}
 use denote.Ref.{now}
 use lib.ListN.{length}
+use Rattle.answer.specs.Sizes.{maxPacket}
 use Rattle.peer.proofs.Replies.{taken-so, cut-short, answer-short}
 use borrow.Author.Needs.{needs}
 use Rattle.peer.proofs.Peer.taken.Statement.{statement}
@@ -10,7 +11,7 @@ use Rattle.peer.proofs.Peer.taken.Tie as tie
 sixteen : (s : tie.Start) → length (s .args .random) ≡ 16
 sixteen s = search needs
 
-within : (s : tie.Start) → length (now (s .args .q)) ≤ 1020
+within : (s : tie.Start) → length (now (s .args .q)) ≤ maxPacket
 within s = s .pre
 
 pub taken-spec : {M : Type 1} → statement M

@@ -1,12 +1,12 @@
 use Rattle.answer.proofs.Outcomes.{does}
-use Rattle.server.proofs.Laws.{due-told}
-use Rattle.server.specs.Calls.{dueOf}
+use Rattle.server.proofs.Laws.{act-told}
+use Rattle.server.specs.Calls.{actOf}
 use borrow.Author.Needs.{needs}
 use Rattle.server.proofs.Server.act.Statement.{statement}
 use Rattle.server.proofs.Server.act.Tie as tie
 
 pub act-spec : {M : Type 1} → statement M
-unfolding dueOf
+unfolding actOf
 act-spec =
     tie.close
     (tie.spec
@@ -17,8 +17,8 @@ act-spec =
     (λ c. search needs)
     (λ c κs. search needs)
     (λ c. search needs)
-    (λ c. search (does, due-told))
+    (λ c. search (does, act-told))
     (λ c. search needs)
-    (λ c. search (does, due-told))
+    (λ c. search (does, act-told))
     (λ c. search needs)
-    (λ c. search (does, due-told)))
+    (λ c. search (does, act-told)))

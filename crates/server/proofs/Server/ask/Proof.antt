@@ -8,8 +8,5 @@ ask-spec =
     tie.close
     (tie.spec
     (λ c. search (needs, asks-none))
-    (λ c. search needs)
     (λ c κs. search needs)
-    (λ c κs. search needs)
-    (λ c. search needs)
     (λ c. search (needs, asks-some)))

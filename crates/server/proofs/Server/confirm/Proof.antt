@@ -1,12 +1,10 @@
 use mathlib.Core.Path.{refl}
-use Rattle.server.specs.Calls.{confirmOf}
 use Rattle.server.proofs.Laws.{closed-by}
 use borrow.Author.Needs.{needs}
 use Rattle.server.proofs.Server.confirm.Statement.{statement}
 use Rattle.server.proofs.Server.confirm.Tie as tie
 
 pub confirm-spec : {M : Type 1} → statement M
-unfolding confirmOf
 confirm-spec =
     tie.close
     (tie.spec

@@ -1,12 +1,10 @@
 use mathlib.Core.Path.{refl}
-use Rattle.server.specs.Calls.{endOf}
 use Rattle.server.proofs.Laws.{closed-by}
 use borrow.Author.Needs.{needs}
 use Rattle.server.proofs.Server.end.Statement.{statement}
 use Rattle.server.proofs.Server.end.Tie as tie
 
 pub end-spec : {M : Type 1} → statement M
-unfolding endOf
 end-spec =
     tie.close
     (tie.spec
