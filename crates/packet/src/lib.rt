@@ -508,7 +508,7 @@ pub fn response_at(p: &[u8], at: usize) -> [u8; 24]
 }
 
 // The sixteen octets of the 32 hex digits from a place on: the challenge of a Failure Request.
-pub fn unhex_at(p: &[u8], at: usize) -> [u8; 16]
+pub fn hex_sixteen_at(p: &[u8], at: usize) -> [u8; 16]
     ensures { λ r. ⌜ r ≡ cells 16 (unhexAt (part (now (p .entry)) at 32)) ⌝ }
 {
     octets::from_hex(octets::part(p, at, 32))

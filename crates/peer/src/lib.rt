@@ -470,7 +470,7 @@ impl Peer {
         let own = self.challenges.own;
         let chapid = k.chapid;
         let challenges = Challenges {
-            authenticator: packet::unhex_at(q, k.challenge.start),
+            authenticator: packet::hex_sixteen_at(q, k.challenge.start),
             own,
             chapid,
         };
