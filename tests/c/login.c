@@ -81,6 +81,25 @@ static void right_password(void)
     EXPECT(ZT_STAGE(peer) == ZT_PEER_SUCCESS);
 }
 
+/* A Success message that ends with its digits: ` M=` is padding then. With one octet more it has no form. */
+static void success_without_a_message(void)
+{
+    ANSWERS(new_peer(HASH), ZT_WRITTEN, 0);
+    ANSWERS(start(0), ZT_WRITTEN, 31);
+    ANSWERS(to_peer(31), ZT_WRITTEN, 68);
+    ANSWERS(to_server(68), ZT_WRITTEN, 54);
+    request[3] = 52;
+    request[8] = 47;
+    ANSWERS(to_peer(54), ZT_BAD_FORM, 0);
+    request[3] = 51;
+    request[8] = 46;
+    ANSWERS(to_peer(54), ZT_WRITTEN, 6);
+    ANSWERS(to_peer(51), ZT_WRITTEN, 6);
+    ANSWERS(to_server(6), ZT_AUTHENTICATED, 4);
+    ANSWERS(to_peer(4), ZT_AUTHENTICATED, 0);
+    EXPECT(ZT_STAGE(peer) == ZT_PEER_SUCCESS);
+}
+
 /* A wrong password, and then the right one: what was lost comes again. */
 static void second_try(void)
 {
@@ -171,6 +190,7 @@ static void without_a_state(void)
 int main(void)
 {
     right_password();
+    success_without_a_message();
     second_try();
     wrong_password();
     refusals();

@@ -1,34 +1,39 @@
 -- The peer takes what the server writes, with any padding after it.
 use Prim.Native.Nat.{ℕ, _+_, _≤_}
 use mathlib.Core.Path.{_≡_, refl, sym, ap, _∙_}
+use mathlib.Core.Bool.{false}
 use mathlib.Core.List.{List, [], _++_, append-nil}
 use native.Mathlib.Omega.{arith}
 use lib.ListN.{length, take}
 use lib.Seq.{take-at}
 use Rattle.octets.specs.Choice.{pick}
 use Rattle.octets.specs.Lists.{part, cells}
-use Rattle.octets.specs.Octets.{AreOctets, hexAt, unhexAt, decimal}
-use Rattle.octets.proofs.Lists.{take-sized}
+use Rattle.octets.specs.Octets.{AreOctets, same, hexAt, unhexAt, decimal}
+use Rattle.octets.proofs.Exits.{pick-true}
+use Rattle.octets.proofs.Lists.{length-cells, take-sized}
 use Rattle.octets.proofs.Parts.{sized-part}
 use Rattle.octets.proofs.Decimals.{few-decimal}
-use Rattle.answer.specs.Outcome.{outcome}
+use Rattle.octets.proofs.Hex.{all-hex-of}
+use Rattle.octets.proofs.Scans.{same-refl}
+use Rattle.answer.specs.Outcome.{outcome, fitting}
 use Rattle.answer.specs.Sizes.{maxName}
 use Rattle.answer.specs.declared.Identifier.{Identifier}
+use Rattle.answer.proofs.Outcomes.{fitting-so}
 use Rattle.packet.specs.declared.End.the-variants as end
-use Rattle.packet.specs.declared.Kind.the-variants.{Challenge, SuccessRequest}
+use Rattle.packet.specs.declared.Kind.the-variants.{Challenge}
 use Rattle.packet.specs.declared.Packet.{Packet}
-use Rattle.packet.specs.Forms.{challengePacket, successRequest, failureRequest, successResponse, failureResponse, eapSuccess, eapFailure}
+use Rattle.packet.specs.Forms.{challengePacket, with-text, successRequest, failureRequest, successResponse, failureResponse, eapSuccess, eapFailure}
 use Rattle.packet.specs.Reader.{reading, place, nowhere, failureOf, challengeIn}
 use Rattle.packet.proofs.Sizes.{length-challengePacket, length-successRequest, length-failureRequest}
-use Rattle.packet.proofs.Back.{Back, challenge-back, success-request-back, failure-request-back, challenge-again, eap-success-back, eap-failure-back}
+use Rattle.packet.proofs.Back.{Back, challenge-back, failure-request-back, challenge-again, eap-success-back, eap-failure-back}
 use Rattle.mschap.specs.Responses.{digitsOf}
 use Rattle.peer.specs.declared.Peer.{Peer}
 use Rattle.peer.specs.declared.Stage.the-variants.{Begin, ChallengeResponseSent, SuccessResponseSent, FailureResponseSent, Success, Failed}
 use Rattle.peer.specs.State.{ownName, lastId, responseTo, rightDigits, initial, staged, answered, responded, awaiting}
-use Rattle.peer.specs.Calls.{renewedIn, digitsIn, stepOf}
+use Rattle.peer.specs.Calls.{renewedIn, stepOf}
 use Rattle.peer.proofs.Replies.{length-response-to}
 use Rattle.server.specs.State.{chapOf}
-use Rattle.peerlaws.proofs.Forward.{responseIn, responds-so, accepts-so, succeeds-so, waits-so, fails-so, ends-so}
+use Rattle.peerlaws.proofs.Forward.{responseIn, responds-so, any-tail-taken, succeeds-so, waits-so, fails-so, ends-so}
 
 -- ---- a Challenge, at a made peer
 module _ (id : Identifier) (challenge server random name hash padding : List ℕ) (room : ℕ) (sixteen : length challenge ≡ 16) (some : 1 ≤ length server) (few : length server ≤ maxName) (named : length name ≤ maxName) (own : length random ≡ 16) where
@@ -79,21 +84,14 @@ module _ (p : Peer) (i chapid : ℕ) (string random padding : List ℕ) (room : 
   abbrev granted : List ℕ
   granted = successRequest i chapid string []
 
-  abbrev granting : Packet
-  granting = reading SuccessRequest i chapid 54 0 nowhere (place 11 40) (place 54 0)
-
-  cut-granted : take 54 (granted ++ padding) ≡ granted
-  cut-granted = take-at granted padding 54 (length-successRequest i chapid string [])
-
-  digits-in : digitsIn granting granted ≡ digitsOf string
-  unfolding digitsIn digitsOf
-  digits-in = ap (λ (x : List ℕ). part x 11 40) (sym (append-nil granted)) ∙ success-request-back i chapid string [] octets (omega arith) .response-is []
-
   pub success-accepted : p .stage ≡ ChallengeResponseSent → (i ≡ lastId p → ⊥) → rightDigits p ≡ digitsOf string → 6 ≤ room
       → stepOf p (granted ++ padding) random room ≡ outcome 0 (successResponse i) (answered SuccessResponseSent granted (successResponse i) p)
+  unfolding successRequest digitsOf
   success-accepted e d h r =
-      accepts-so p (granted ++ padding) random room granting (success-request-back i chapid string [] octets (omega arith) .reads padding) e refl d (ap (digitsIn granting) cut-granted ∙ digits-in ∙ sym h) r
-      ∙ (λ j. outcome 0 (successResponse i) (answered SuccessResponseSent (cut-granted j) (successResponse i) p))
+      let digits = cells 40 (hexAt string) in
+      any-tail-taken p i chapid digits (with-text []) granted padding random room refl (omega (arith, length-successRequest i chapid string [])) (length-cells 40 (hexAt string)) (all-hex-of false string 40 octets) e d
+      ∙ ap (fitting room p) (pick-true _ _ _ (ap (same digits) h ∙ same-refl digits))
+      ∙ fitting-so room p _ r
 
 -- ---- a Failure Request; c are its challenge's octets
 module _ (p : Peer) (i chapid code retry : ℕ) (c random padding : List ℕ) (room : ℕ) (small : code ≤ 999) (bit : retry ≤ 1) (octets : AreOctets c) where

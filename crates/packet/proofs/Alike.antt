@@ -1,25 +1,30 @@
 -- Two packets that read alike, with the same octets at the reading's places, are the same octets up to L.
 use Prim.Native.Nat.{ℕ, zero, suc, _+_, _≤_}
-use mathlib.Core.Path.{_≡_, refl, sym, ap, _∙_}
+use mathlib.Core.Path.{_≡_, refl, sym, ap, subst, _∙_}
 use mathlib.Core.List.{List}
 use native.Mathlib.Omega.{arith}
-use lib.ListN.{length, take, drop}
+use lib.ListN.{length, take, drop, length-take, take-append-drop}
+use lib.Dec.{eqb}
 use lib.Seq.{take-length}
 use Rattle.octets.specs.Lists.{part}
 use Rattle.octets.specs.Octets.{AreOctets}
 use Rattle.octets.specs.Choice.{pick}
-use Rattle.octets.proofs.Parts.{length-part}
+use Rattle.octets.proofs.Parts.{length-part, part-pad}
 use Rattle.octets.proofs.Decimals.{number-apart}
 use Rattle.answer.specs.Outcome.{gives}
 use Rattle.packet.specs.declared.End.{End}
+use Rattle.packet.specs.declared.End.the-variants.{Peer}
 use Rattle.packet.specs.declared.Kind.{Kind}
 use Rattle.packet.specs.declared.Kind.the-variants.{Challenge, Response, SuccessRequest, FailureRequest, RetryRequest, SuccessResponse, FailureResponse, EapSuccess, EapFailure}
 use Rattle.packet.specs.declared.Packet.{Packet}
-use Rattle.packet.specs.Forms.{challengeNameAt, responseNameAt, successTextAt, successMessage, failureMessage, chapPacket, challengePacket, responsePacket, successResponse, failureResponse, eapSuccess, eapFailure}
+use Rattle.packet.specs.declared.Place.{Place}
+use Rattle.packet.specs.Forms.{challengeNameAt, responseNameAt, successTailAt, no-tail, with-text, successMessage, failureMessage, chapPacket, challengePacket, responsePacket, successResponse, failureResponse, eapSuccess, eapFailure}
 use Rattle.packet.specs.Kinds.{kindNumber}
+use Rattle.packet.specs.Promises.{tailIn, messageIn, SuccessMessagesApart}
 use Rattle.packet.specs.Reader.{at, failureOf, readPacket}
 use Rattle.packet.proofs.Shapes.{ChallengeShape, ResponseShape, SuccessShape, FailureShape}
 use Rattle.packet.proofs.Readings.{tells, Shape}
+use Rattle.packet.proofs.Places.{read-places}
 use Rattle.packet.proofs.Exact.{cut-octets}
 
 pub record SameAt (p p′ : List ℕ) (x : Packet) : Type 0 where
@@ -72,13 +77,16 @@ module _ (q q′ : List ℕ) (x : Packet) (o : AreOctets q) (o′ : AreOctets q�
       let t : drop responseNameAt q ≡ drop responseNameAt q′ = sym (take-length (drop responseNameAt q)) ∙ same-tail q q′ x _ _ (s .reads) (s′ .reads) same ∙ take-length (drop responseNameAt q′) in
       s .is o ∙ (λ j. responsePacket (i j) (c j) (a j) (b j) (t j)) ∙ sym (s′ .is o′)
 
+  tail-alike : tailIn (x .tail) q ≡ tailIn (x .tail) q′
+  unfolding tailIn
+  tail-alike = ap (λ (text : List ℕ). pick (eqb (x .tail .start) successTailAt) no-tail (with-text text)) (same .tail)
+
   successes : SuccessShape q x → SuccessShape q′ x → q ≡ q′
   successes s s′ =
       let i = same-id q q′ x _ _ (s .reads) (s′ .reads) same in
       let c = same-chapid q q′ x _ _ (s .reads) (s′ .reads) same in
       let b = same-response q q′ x _ _ (s .reads) (s′ .reads) same in
-      let t : drop successTextAt q ≡ drop successTextAt q′ = sym (take-length (drop successTextAt q)) ∙ same-tail q q′ x _ _ (s .reads) (s′ .reads) same ∙ take-length (drop successTextAt q′) in
-      s .is o ∙ (λ j. chapPacket 1 3 (i j) (c j) (successMessage (b j) (t j))) ∙ sym (s′ .is o′)
+      s .is o ∙ (λ j. chapPacket 1 3 (i j) (c j) (successMessage (b j) (tail-alike j))) ∙ sym (s′ .is o′)
 
   -- where C and the text stand tells how many digits E and V have, so that their numbers tell the digits
   failures : FailureShape q x → FailureShape q′ x → q ≡ q′
@@ -119,3 +127,21 @@ module _ (q q′ : List ℕ) (x : Packet) (o : AreOctets q) (o′ : AreOctets q�
 pub read-alike : (end : End) (p p′ : List ℕ) (x : Packet) → AreOctets p → AreOctets p′ → readPacket end p ≡ gives x → readPacket end p′ ≡ gives x → SameAt (take (x .length) p) (take (x .length) p′) x → take (x .length) p ≡ take (x .length) p′
 read-alike end p p′ x o o′ e e′ same =
     shapes (take (x .length) p) (take (x .length) p′) x (cut-octets p (x .length) o) (cut-octets p′ (x .length) o′) same (x .kind) (tells end p x e .shape) (tells end p′ x e′ .shape)
+
+-- ---- a Success message, by what its reading tells
+at-cut : (p : List ℕ) (n : ℕ) (a : Place) → n ≤ length p → a .start + a .len ≤ n → at (take n p) a ≡ at p a
+at-cut p n a h k = sym (part-pad (take n p) (drop n p) (a .start) (a .len) (omega (arith, length-take n p))) ∙ ap (λ (l : List ℕ). at l a) (take-append-drop n p)
+
+pub success-told : (p : List ℕ) (x : Packet) → readPacket Peer p ≡ gives x → x .kind ≡ SuccessRequest → messageIn x p ≡ successMessage (at p (x .response)) (tailIn (x .tail) p)
+unfolding tailIn
+success-told p x e k =
+    let t = tells Peer p x e in
+    let q = take (x .length) p in
+    let i = read-places Peer p x e .0 in
+    let s : SuccessShape q x = subst (λ (z : Kind). Shape z q x) k (t .shape) in
+    let b : part q 11 40 ≡ at p (x .response) = ap (λ (z : Packet). at q (z .response)) (sym (s .reads)) ∙ at-cut p (x .length) (x .response) (t .inside) (i .response) in
+    let c : at q (x .tail) ≡ at p (x .tail) = at-cut p (x .length) (x .tail) (t .inside) (i .tail) in
+    s .message ∙ (λ j. successMessage (b j) (pick (eqb (x .tail .start) successTailAt) no-tail (with-text (c j))))
+
+pub success-messages-apart : SuccessMessagesApart
+success-messages-apart p p′ x x′ e e′ k k′ b t = success-told p x e k ∙ (λ j. successMessage (b j) (t j)) ∙ sym (success-told p′ x′ e′ k′)

@@ -6,12 +6,13 @@ use mathlib.Core.Bool.{Bool, true, false, not, _||_}
 use native.Mathlib.Omega.{arith}
 use lib.ListN.{length, getD, take, drop, length-append}
 use lib.Seq.{take-length}
+use lib.Dec.{eqb}
 use borrow.Author.Tests.{le-ltb, le-leb, lt-leb, eq-eqb, ne-eqb}
 use Rattle.octets.specs.Choice.{pick}
 use Rattle.octets.specs.Lists.{part, cells}
-use Rattle.octets.specs.Octets.{numberAt, octetIs, AreOctets, allHex, hexAt, unhexAt, digits, isDigit, number, numberFrom, decimal}
+use Rattle.octets.specs.Octets.{numberAt, octetIs, standsAt, AreOctets, allHex, hexAt, unhexAt, digits, isDigit, number, numberFrom, decimal}
 use Rattle.octets.specs.declared.Order.the-variants.{Big}
-use Rattle.octets.proofs.Exits.{pick-false, below, or-first, or-second, or-none, and-both}
+use Rattle.octets.proofs.Exits.{pick-true, pick-false, below, or-first, or-second, or-none, and-both}
 use Rattle.octets.proofs.Lists.{length-cells}
 use Rattle.octets.proofs.Decimals.{digits-append, digits-decimal, some-decimal, few-decimal, number-decimal}
 use Rattle.octets.proofs.Hex.{all-hex-of, unhex-hex}
@@ -25,9 +26,10 @@ use Rattle.packet.specs.declared.Kind.the-variants.{Challenge, Response,
 use Rattle.packet.specs.declared.Packet.{Packet}
 use Rattle.packet.specs.declared.Place.{Place}
 use Rattle.packet.specs.Frame.{codeOf}
-use Rattle.packet.specs.Forms.{challengeNameAt, maxChallengeName, responseNameAt, successTextAt, wordS, wordE, wordR, wordC, wordV, wordM, eightZeros, successMessage, FailureSpelling, failureMessage, header, chapPacket, challengePacket, responsePacket, successRequest, failureRequest, successResponse, failureResponse, eapSuccess, eapFailure}
+use Rattle.packet.specs.Forms.{challengeNameAt, maxChallengeName, responseNameAt, successTailAt, successTextAt, wordS, wordE, wordR, wordC, wordV, wordM, eightZeros, Tail, no-tail, with-text, tailOctets, successMessage, FailureSpelling, failureMessage, header, chapPacket, challengePacket, responsePacket, successRequest, failureRequest, successResponse, failureResponse, eapSuccess, eapFailure}
+use Rattle.packet.specs.Promises.{textStart, textOf, successReading, SuccessReads}
 use Rattle.packet.specs.Inner.{atPeer, atServer, atEnd}
-use Rattle.packet.specs.Reader.{challengePlace, ntResponsePlace, stringPlace, refusal, chapRow, challengeFormed, readChallenge, responseFormed, readResponse, successFormed, readSuccess, failureFormed, failureOf, failureRow, errorDigits, readFailure, readBare, readCut, readPacket, reading, place, nowhere, at}
+use Rattle.packet.specs.Reader.{challengePlace, ntResponsePlace, stringPlace, refusal, chapRow, challengeFormed, readChallenge, responseFormed, readResponse, successFormed, textAt, readSuccess, failureFormed, failureOf, failureRow, errorDigits, readFailure, readBare, readCut, readPacket, reading, place, nowhere, at}
 use Rattle.packet.proofs.Frames.{framed-whole}
 use Rattle.packet.proofs.Ends.{at-end}
 use Rattle.packet.proofs.Sizes.{length-chapPacket, length-challengePacket, length-responsePacket, length-success, length-failure}
@@ -147,38 +149,64 @@ module _ (id chapid : ℕ) (peer response name : List ℕ) (sixteen : length pee
         tail-is = λ pad. part-pad response-q pad responseNameAt (length name) (omega arith) ∙ ap (take (length name)) name-from ∙ take-length name;
       }
 
-module _ (id chapid : ℕ) (s text : List ℕ) (forty : length s ≡ 40) (upper : allHex false s ≡ true) (few : successTextAt + length text ≤ maxPacket) where
-  abbrev success-q : List ℕ
-  success-q = chapPacket 1 3 id chapid (successMessage s text)
+-- ---- a Success Request, with or without a tail
+pub tail-size : (tail : Tail) → successTailAt + length (tailOctets tail) ≡ textStart tail + length (textOf tail)
+tail-size no-tail = refl
+tail-size (with-text text) = omega arith
 
-  s-from : drop 11 success-q ≡ s ++ (wordM ++ text)
+-- what follows the digits is read as the tail
+record TailBack (q : List ℕ) (tail : Tail) : Type 0 where
+  form : (eqb (length q) successTailAt || standsAt q successTailAt wordM) ≡ true
+  start : textAt q ≡ textStart tail
+  text : drop (textStart tail) q ≡ textOf tail
+
+tail-back : (q : List ℕ) (tail : Tail) → length q ≡ successTailAt + length (tailOctets tail) → drop successTailAt q ≡ tailOctets tail → TailBack q tail
+unfolding textAt
+tail-back q no-tail n e =
+    let t : eqb (length q) successTailAt ≡ true = eq-eqb _ _ n in
+    record { form = or-first _ _ t; start = pick-true _ _ _ t; text = e }
+tail-back q (with-text text) n e =
+    let f : eqb (length q) successTailAt ≡ false = ne-eqb _ _ (λ (z : length q ≡ successTailAt). absurd (omega arith)) in
+    record { form = or-second _ _ f (stands-from q wordM text successTailAt e); start = pick-false _ _ _ f; text = drop-next q wordM text successTailAt 3 successTextAt e refl refl }
+
+module _ (id chapid : ℕ) (s : List ℕ) (tail : Tail) (forty : length s ≡ 40) (upper : allHex false s ≡ true) (few : successReading id chapid tail .length ≤ maxPacket) where
+  abbrev success-q : List ℕ
+  success-q = chapPacket 1 3 id chapid (successMessage s tail)
+
+  s-from : drop 11 success-q ≡ s ++ tailOctets tail
   unfolding successMessage chapPacket header
   s-from = refl
 
-  m-from : drop 51 success-q ≡ wordM ++ text
-  m-from = drop-next success-q s (wordM ++ text) 11 40 51 s-from forty refl
+  success-length : length success-q ≡ successTailAt + length (tailOctets tail)
+  success-length = length-success id chapid s tail forty
 
-  text-from : drop successTextAt success-q ≡ text
-  text-from = drop-next success-q wordM text 51 3 successTextAt m-from refl refl
+  after-s : TailBack success-q tail
+  after-s = tail-back success-q tail success-length (drop-next success-q s (tailOctets tail) 11 40 successTailAt s-from forty refl)
 
   success-form : successFormed success-q ≡ true
   unfolding successFormed successMessage chapPacket header
   success-form =
-      pick-false _ _ _ (ap not (stands-from success-q wordS (s ++ (wordM ++ text)) 9 refl))
-      ∙ pick-false _ _ _ (ap not (hex-from false success-q s (wordM ++ text) 11 40 s-from forty upper))
-      ∙ stands-from success-q wordM text 51 m-from
+      pick-false _ _ _ (ap not (stands-from success-q wordS (s ++ tailOctets tail) 9 refl))
+      ∙ pick-false _ _ _ (ap not (hex-from false success-q s (tailOctets tail) 11 40 s-from forty upper))
+      ∙ after-s .form
 
-  pub success-back : Back Peer success-q (reading SuccessRequest id chapid (successTextAt + length text) 0 nowhere stringPlace (place successTextAt (length text))) [] s text
+  pub success-back : Back Peer success-q (successReading id chapid tail) [] s (textOf tail)
   unfolding atEnd atPeer readSuccess pick
   success-back =
-      let l : length success-q ≡ successTextAt + length text = length-success id chapid s text forty in
-      let size : 9 + length (successMessage s text) ≡ successTextAt + length text = sym (length-chapPacket 1 3 id chapid (successMessage s text)) ∙ l in
+      let l : length success-q ≡ textStart tail + length (textOf tail) = success-length ∙ tail-size tail in
+      let size : 9 + length (successMessage s tail) ≡ textStart tail + length (textOf tail) = sym (length-chapPacket 1 3 id chapid (successMessage s tail)) ∙ l in
+      let text : drop (textAt success-q) success-q ≡ textOf tail = ap (λ (a : ℕ). drop a success-q) (after-s .start) ∙ after-s .text in
       record {
-        reads = λ pad. chap-whole 1 3 id chapid (successMessage s text) _ size few Peer pad ∙ chap-reads 1 3 id chapid (successMessage s text) _ size few SuccessRequest _ 0 nowhere stringPlace successTextAt text success-form text-from;
+        reads = λ pad. chap-whole 1 3 id chapid (successMessage s tail) _ size few Peer pad
+            ∙ chap-reads 1 3 id chapid (successMessage s tail) _ size few SuccessRequest _ 0 nowhere stringPlace (textAt success-q) (textOf tail) success-form text
+            ∙ (λ j. gives (reading SuccessRequest id chapid (textStart tail + length (textOf tail)) 0 nowhere stringPlace (place (after-s .start j) (length (textOf tail)))));
         challenge-is = λ pad. refl;
-        response-is = λ pad. part-pad success-q pad 11 40 (omega arith) ∙ part-from success-q s (wordM ++ text) 11 40 s-from forty;
-        tail-is = λ pad. part-pad success-q pad successTextAt (length text) (omega arith) ∙ ap (take (length text)) text-from ∙ take-length text;
+        response-is = λ pad. part-pad success-q pad 11 40 (omega (arith, success-length)) ∙ part-from success-q s (tailOctets tail) 11 40 s-from forty;
+        tail-is = λ pad. part-pad success-q pad (textStart tail) (length (textOf tail)) (omega arith) ∙ ap (take (length (textOf tail))) (after-s .text) ∙ take-length (textOf tail);
       }
+
+pub success-reads : SuccessReads
+success-reads id chapid s tail pad forty upper few = success-back id chapid s tail forty upper few .reads pad
 
 -- ---- a Failure Request, its digits spelled in any way that is a form
 -- the digit of R
@@ -276,7 +304,7 @@ module _ (id chapid : ℕ) (e : List ℕ) (retry : ℕ) (c v text : List ℕ) (f
 pub success-request-back : (id chapid : ℕ) (string text : List ℕ) → AreOctets string → successTextAt + length text ≤ maxPacket → Back Peer (successRequest id chapid string text) (reading SuccessRequest id chapid (successTextAt + length text) 0 nowhere stringPlace (place successTextAt (length text))) [] (cells 40 (hexAt string)) text
 unfolding successRequest
 success-request-back id chapid string text o few =
-    success-back id chapid (cells 40 (hexAt string)) text (length-cells 40 (hexAt string)) (all-hex-of false string 40 o) few
+    success-back id chapid (cells 40 (hexAt string)) (with-text text) (length-cells 40 (hexAt string)) (all-hex-of false string 40 o) few
 
 pub failure-request-back : (id chapid error retry : ℕ) (challenge text : List ℕ) → error ≤ 9999999999 → retry ≤ 1 → AreOctets challenge → 57 + length (decimal error) + length text ≤ maxPacket → Back Peer (failureRequest id chapid error retry challenge text) (reading (failureOf retry) id chapid (57 + length (decimal error) + length text) error (place (18 + length (decimal error)) 32) nowhere (place (57 + length (decimal error)) (length text))) (cells 32 (hexAt challenge)) [] text
 unfolding failureRequest digits isDigit pick number numberFrom

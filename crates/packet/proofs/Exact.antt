@@ -16,10 +16,10 @@ use Rattle.packet.specs.declared.End.the-variants.{Peer, Server}
 use Rattle.packet.specs.declared.Kind.{Kind}
 use Rattle.packet.specs.declared.Kind.the-variants.{Challenge, Response, SuccessRequest, FailureRequest, RetryRequest, SuccessResponse, FailureResponse, EapSuccess, EapFailure}
 use Rattle.packet.specs.declared.Packet.{Packet}
-use Rattle.packet.specs.Forms.{challengeNameAt, responseNameAt, successTextAt, Formed, a-challenge, a-response, a-success-request, a-failure-request, a-success-response, a-failure-response, an-eap-success, an-eap-failure}
+use Rattle.packet.specs.Forms.{challengeNameAt, responseNameAt, Formed, a-challenge, a-response, a-success-request, a-failure-request, a-success-response, a-failure-response, an-eap-success, an-eap-failure}
 use Rattle.packet.specs.Reader.{readPacket}
 use Rattle.packet.proofs.Sizes.{length-challengePacket, length-success, length-failure}
-use Rattle.packet.proofs.Back.{challenge-back, response-back, success-back, failure-back, success-response-back, failure-response-back, eap-success-back, eap-failure-back}
+use Rattle.packet.proofs.Back.{challenge-back, response-back, tail-size, success-back, failure-back, success-response-back, failure-response-back, eap-success-back, eap-failure-back}
 use Rattle.packet.proofs.Readings.{tells, Shape, endOf}
 
 -- a packet of the table is read, whatever follows it
@@ -31,8 +31,8 @@ pub formed-reads : (end : End) (q : List ℕ) → Formed end q → length q ≤ 
 formed-reads Peer _ (a-challenge id chapid c name n s) h =
     record { reading = _; reads = challenge-back id chapid c name n s (omega (arith, length-challengePacket id chapid c name n)) .reads }
 formed-reads Server _ (a-response id chapid p r name n m s) h = record { reading = _; reads = response-back id chapid p r name n m s .reads }
-formed-reads Peer _ (a-success-request id chapid s text n u) h =
-    record { reading = _; reads = success-back id chapid s text n u (omega (arith, length-success id chapid s text n)) .reads }
+formed-reads Peer _ (a-success-request id chapid s tail n u) h =
+    record { reading = _; reads = success-back id chapid s tail n u (omega (arith, tail-size tail, length-success id chapid s tail n)) .reads }
 formed-reads Peer _ (a-failure-request id chapid e retry c v text f) h =
     record { reading = _; reads = failure-back id chapid e retry c v text f (omega (arith, length-failure id chapid e (48 + retry) c v text (f .c-size))) .reads }
 formed-reads Server _ (a-success-response id) h = record { reading = _; reads = success-response-back id .reads }
@@ -57,7 +57,7 @@ shape-formed Response q x o s =
     subst (Formed Server) (sym (s .is o)) (a-response _ _ (part q 10 16) (part q 34 24) (drop responseNameAt q) (length-part q 10 16 (omega arith)) (length-part q 34 24 (omega arith)) (omega (arith, length-drop responseNameAt q)))
 shape-formed SuccessRequest q x o s =
     let l = s .least in
-    subst (Formed Peer) (sym (s .is o)) (a-success-request _ _ (part q 11 40) (drop successTextAt q) (length-part q 11 40 (omega arith)) (s .upper))
+    subst (Formed Peer) (sym (s .is o)) (a-success-request _ _ (part q 11 40) _ (length-part q 11 40 (omega arith)) (s .upper))
 shape-formed FailureRequest q x o s = subst (Formed Peer) (sym (s .is o)) (a-failure-request _ _ _ (s .retry) _ _ _ (s .spelling))
 shape-formed RetryRequest q x o s = subst (Formed Peer) (sym (s .is o)) (a-failure-request _ _ _ (s .retry) _ _ _ (s .spelling))
 shape-formed SuccessResponse q x o s = subst (Formed Server) (sym (s .is)) (a-success-response _)

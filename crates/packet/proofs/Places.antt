@@ -10,8 +10,8 @@ use Rattle.packet.specs.declared.End.{End}
 use Rattle.packet.specs.declared.Kind.{Kind}
 use Rattle.packet.specs.declared.Kind.the-variants.{Challenge, Response, SuccessRequest, FailureRequest, RetryRequest, SuccessResponse, FailureResponse, EapSuccess, EapFailure}
 use Rattle.packet.specs.declared.Packet.{Packet}
-use Rattle.packet.specs.Forms.{challengeNameAt, responseNameAt, successTextAt}
-use Rattle.packet.specs.Reader.{readPacket}
+use Rattle.packet.specs.Forms.{challengeNameAt, responseNameAt}
+use Rattle.packet.specs.Reader.{textAt, readPacket}
 use Rattle.packet.proofs.Shapes.{FailureShape, BareShape}
 use Rattle.packet.proofs.Readings.{tells, Shape}
 
@@ -56,7 +56,8 @@ places Response q x s =
     subst (λ (y : Packet). Inside y × Long Response y) (sym (s .reads)) (record { challenge = omega arith; response = omega arith; tail = omega arith }, (refl, refl, omega arith))
 places SuccessRequest q x s =
     let l = s .least in
-    let d = length-drop successTextAt q in
+    let t = s .text in
+    let d = length-drop (textAt q) q in
     subst (λ (y : Packet). Inside y × Long SuccessRequest y) (sym (s .reads)) (record { challenge = omega arith; response = omega arith; tail = omega arith }, refl)
 places FailureRequest q x s = failure-inside q x s
 places RetryRequest q x s = failure-inside q x s

@@ -9,6 +9,7 @@ use lib.Dec.{ltb, leb, eqb}
 use borrow.Author.Tests.{ltb-false}
 use Rattle.octets.specs.Choice.{pick}
 use Rattle.octets.specs.Octets.{octetIs, same, standsAt, numberAt, allHex, hexStands, digits, number}
+use Rattle.octets.proofs.Exits.{arms}
 use Rattle.answer.specs.Outcome.{Told, gives}
 use Rattle.packet.specs.declared.End.{End}
 use Rattle.packet.specs.declared.Kind.{Kind}
@@ -16,7 +17,7 @@ use Rattle.packet.specs.declared.Packet.{Packet}
 use Rattle.packet.specs.declared.Place.{Place}
 use Rattle.packet.specs.Forms.{wordE, wordR, wordC, wordV, wordM}
 use Rattle.packet.specs.Frame.{lengthOf, framed, typed}
-use Rattle.packet.specs.Reader.{refusal, reading, place, nowhere, chapRow, challengeFormed, readChallenge, responseFormed, readResponse, successFormed, readSuccess, failureFormed, failureOf, failureRow, errorDigits, readFailure, readBare, rowOf, opened, readCut, readPacket}
+use Rattle.packet.specs.Reader.{refusal, reading, place, nowhere, chapRow, challengeFormed, readChallenge, responseFormed, readResponse, successFormed, textAt, readSuccess, failureFormed, failureOf, failureRow, errorDigits, readFailure, readBare, rowOf, opened, readCut, readPacket}
 use Rattle.packet.proofs.Frames.{neither}
 
 -- x under the Identifier i
@@ -101,10 +102,10 @@ module _ (i j : ℕ) where
         (chap-alike _ _ _ _ _ (56 + e + v) (omega arith))
 
     cut-alike : (end : End) → R (readCut end q) (readCut end q′)
-    unfolding readCut typed opened rowOf readChallenge challengeFormed readResponse responseFormed readSuccess successFormed octetIs standsAt hexStands
+    unfolding readCut typed opened rowOf readChallenge challengeFormed readResponse responseFormed readSuccess successFormed textAt octetIs standsAt hexStands
     cut-alike end =
         both _ (no 13 refl) (both _ (no 14 refl) (both _ (no 15 refl)
-        (both _ (both _ (chap-alike _ _ _ _ _ _ (omega arith)) (both _ (chap-alike _ _ _ _ _ _ (omega arith)) (both _ failure-alike (no 15 refl))))
+        (both _ (both _ (chap-alike _ _ _ _ _ _ (omega arith)) (both _ (chap-alike _ _ _ _ _ _ (arms (λ (n : ℕ). 2 ≤ n) _ (omega arith) (omega arith))) (both _ failure-alike (no 15 refl))))
         (both _ (both _ (chap-alike _ _ _ _ _ _ (omega arith)) (both _ (bare-alike _ 6) (both _ (bare-alike _ 6) (no 15 refl))))
         (both _ (bare-alike _ 4) (bare-alike _ 4))))))
 

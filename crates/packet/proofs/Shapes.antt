@@ -5,26 +5,28 @@ use mathlib.Core.List.{List, [], _∷_, _++_}
 use mathlib.Core.Bool.{Bool, true, false, not, _&&_, _||_}
 use native.Mathlib.Omega.{arith}
 use lib.ListN.{length, getD, drop, length-drop, take-append-drop}
+use lib.Seq.{take-length}
 use lib.Dec.{ltb, leb, eqb}
 use borrow.Author.Tests.{ltb-false, leb-false, leb-true, eqb-true, eq-eqb, not-false}
 use Rattle.octets.specs.Lists.{cells, sized, part}
-use Rattle.octets.specs.Octets.{AreOctets, octetIs, numberAt, allHex, hexAt, unhexAt, digits, number}
+use Rattle.octets.specs.Octets.{AreOctets, octetIs, standsAt, numberAt, allHex, hexAt, unhexAt, digits, number}
 use Rattle.octets.specs.declared.Order.the-variants.{Big}
 use Rattle.octets.specs.Choice.{pick}
-use Rattle.octets.proofs.Exits.{both, passed, tested, clash}
+use Rattle.octets.proofs.Exits.{both, passed, picked, tested, clash}
 use Rattle.octets.proofs.Lists.{sized-own}
 use Rattle.octets.proofs.Decimals.{digits-front}
 use Rattle.octets.proofs.Hex.{hex-unhex}
-use Rattle.octets.proofs.Parts.{octet-is, cut, cut-one, sized-part, length-part, part-inside, stands-is, hex-stands-long, hex-stands-hex}
+use Rattle.octets.proofs.Parts.{octet-is, cut, cut-one, sized-part, length-part, part-inside, rest-none, stands-is, hex-stands-long, hex-stands-hex}
 use Rattle.packet.specs.declared.Kind.{Kind}
 use Rattle.packet.specs.declared.Kind.the-variants.{Challenge, Response, SuccessRequest}
 use Rattle.packet.specs.declared.Packet.{Packet}
 use Rattle.packet.specs.declared.Place.{Place}
 use Rattle.answer.specs.Outcome.{Told, gives}
 use Rattle.answer.specs.Sizes.{maxName}
-use Rattle.packet.specs.Forms.{challengeNameAt, responseNameAt, successTextAt, wordS, wordE, wordR, wordC, wordV, wordM, eightZeros, successMessage, FailureSpelling, failureMessage, header, chapPacket, challengePacket, responsePacket}
+use Rattle.packet.specs.Forms.{challengeNameAt, responseNameAt, successTailAt, successTextAt, wordS, wordE, wordR, wordC, wordV, wordM, eightZeros, tailOctets, successMessage, FailureSpelling, failureMessage, header, chapPacket, challengePacket, responsePacket}
+use Rattle.packet.specs.Promises.{tailIn}
 use Rattle.packet.proofs.Frames.{neither}
-use Rattle.packet.specs.Reader.{challengePlace, ntResponsePlace, stringPlace, refusal, reading, place, nowhere, chapRow, challengeFormed, readChallenge, responseFormed, readResponse, successFormed, readSuccess, failureFormed, failureOf, failureRow, readFailure, readBare}
+use Rattle.packet.specs.Reader.{challengePlace, ntResponsePlace, stringPlace, refusal, reading, place, nowhere, chapRow, challengeFormed, readChallenge, responseFormed, readResponse, successFormed, textAt, readSuccess, failureFormed, failureOf, failureRow, readFailure, readBare}
 
 -- ---- what was not refused
 pub passed-on : (b : Bool) (k : ℕ) (t : Told Packet) (x : Packet) → eqb k 0 ≡ false → pick b (refusal k) t ≡ gives x → (b ≡ false) × (t ≡ gives x)
@@ -124,13 +126,30 @@ response-shape q x h e =
       is = λ o. chap-is q 2 2 h (c .long) (c .ms-length) o ∙ ap (chapPacket 2 2 (getD q 1 0) (getD q 6 0)) body;
     }
 
+-- where a name or text goes from a to L
+abbrev from : ℕ → List ℕ → Place
+from a q = place a (length (drop a q))
+
+-- what follows the digits is the tail that the place of the text tells of
+after-digits : (q : List ℕ) → successTailAt ≤ length q → (eqb (length q) successTailAt || standsAt q successTailAt wordM) ≡ true → (textAt q ≤ length q) × (drop successTailAt q ≡ tailOctets (tailIn (from (textAt q) q) q))
+unfolding textAt tailIn pick
+after-digits q l e =
+    let P : ℕ → Type 0 = λ (a : ℕ). (a ≤ length q) × (drop successTailAt q ≡ tailOctets (tailIn (from a q) q)) in
+    picked P (eqb (length q) successTailAt)
+    (λ t. let n : length q ≡ successTailAt = eqb-true _ _ t in (l, sym (rest-none q successTailAt (omega arith))))
+    (λ f.
+    let m : part q successTailAt 3 ≡ wordM = stands-is q successTailAt wordM (sym (ap (λ (b : Bool). b || standsAt q successTailAt wordM) f) ∙ e) in
+    (part-inside q successTailAt 3 (ap length m) (omega arith), cut q successTailAt 3 successTextAt _ _ refl m (sym (take-length (drop successTextAt q)))))
+
 -- the digits are exactly those that their 20 octets are written as
 pub record SuccessShape (q : List ℕ) (x : Packet) : Type 0 where
-  pub least : successTextAt ≤ length q
+  pub least : successTailAt ≤ length q
+  pub text : textAt q ≤ length q
   pub upper : allHex false (part q 11 40) ≡ true
   pub string : cells 40 (hexAt (cells 20 (unhexAt (part q 11 40)))) ≡ part q 11 40
-  pub reads : x ≡ reading SuccessRequest (getD q 1 0) (getD q 6 0) (length q) 0 nowhere stringPlace (place successTextAt (length (drop successTextAt q)))
-  pub is : AreOctets q → q ≡ chapPacket 1 3 (getD q 1 0) (getD q 6 0) (successMessage (part q 11 40) (drop successTextAt q))
+  pub reads : x ≡ reading SuccessRequest (getD q 1 0) (getD q 6 0) (length q) 0 nowhere stringPlace (from (textAt q) q)
+  pub message : drop 9 q ≡ successMessage (part q 11 40) (tailIn (x .tail) q)
+  pub is : AreOctets q → q ≡ chapPacket 1 3 (getD q 1 0) (getD q 6 0) (successMessage (part q 11 40) (tailIn (x .tail) q))
 
 pub success-shape : (q : List ℕ) (x : Packet) → Head q 1 3 → readSuccess q ≡ gives x → SuccessShape q x
 unfolding readSuccess successFormed successMessage
@@ -138,17 +157,21 @@ success-shape q x h e =
     let c = chap-shape _ q _ _ _ _ _ x e in
     let u1 = passed _ _ (c .form) in
     let u2 = passed _ _ (u1 .1) in
-    let m : part q 51 3 ≡ wordM = stands-is q 51 wordM (u2 .1) in
+    let n : length (part q 11 40) ≡ 40 = hex-stands-long false q 11 40 (not-false _ (u2 .0)) in
+    let l : successTailAt ≤ length q = part-inside q 11 40 n (omega arith) in
+    let t = after-digits q l (u2 .1) in
     let u : allHex false (part q 11 40) ≡ true = hex-stands-hex false q 11 40 (not-false _ (u2 .0)) in
-    let body : drop 9 q ≡ successMessage (part q 11 40) (drop successTextAt q) =
+    let body : drop 9 q ≡ successMessage (part q 11 40) (tailIn (x .tail) q) =
     cut q 9 2 11 _ _ refl (stands-is q 9 wordS (not-false _ (u1 .0)))
-    (cut q 11 40 51 _ _ refl refl
-    (cut q 51 3 successTextAt _ _ refl m refl)) in
+    (cut q 11 40 successTailAt _ _ refl refl (t .1))
+    ∙ ap (λ (y : Packet). successMessage (part q 11 40) (tailIn (y .tail) q)) (sym (c .reads)) in
     record {
-      least = part-inside q 51 3 (ap length m) (omega arith);
+      least = l;
+      text = t .0;
       upper = u;
-      string = hex-unhex (part q 11 40) 20 (hex-stands-long false q 11 40 (not-false _ (u2 .0))) u;
+      string = hex-unhex (part q 11 40) 20 n u;
       reads = c .reads;
+      message = body;
       is = λ o. chap-is q 1 3 h (c .long) (c .ms-length) o ∙ ap (chapPacket 1 3 (getD q 1 0) (getD q 6 0)) body;
     }
 

@@ -8,7 +8,7 @@ use Rattle.octets.specs.Lists.{cells}
 use Rattle.octets.specs.Octets.{hexAt, decimal}
 use Rattle.octets.proofs.Lists.{length-cells}
 use Rattle.octets.proofs.Decimals.{length-decimal-3}
-use Rattle.packet.specs.Forms.{challengeNameAt, responseNameAt, successTextAt, successMessage, failureMessage, header, chapPacket, challengePacket, responsePacket, successRequest, failureRequest}
+use Rattle.packet.specs.Forms.{challengeNameAt, responseNameAt, successTailAt, successTextAt, Tail, with-text, tailOctets, successMessage, failureMessage, header, chapPacket, challengePacket, responsePacket, successRequest, failureRequest}
 
 pub length-chapPacket : (code op id chapid : ℕ) (body : List ℕ) → length (chapPacket code op id chapid body) ≡ 9 + length body
 unfolding chapPacket header
@@ -23,13 +23,13 @@ unfolding responsePacket
 length-responsePacket id chapid peer response name e f =
     simp (length-chapPacket, length-append) (omega arith)
 
-pub length-success : (id chapid : ℕ) (s text : List ℕ) → length s ≡ 40 → length (chapPacket 1 3 id chapid (successMessage s text)) ≡ successTextAt + length text
+pub length-success : (id chapid : ℕ) (s : List ℕ) (tail : Tail) → length s ≡ 40 → length (chapPacket 1 3 id chapid (successMessage s tail)) ≡ successTailAt + length (tailOctets tail)
 unfolding successMessage
-length-success id chapid s text e = simp (length-chapPacket, length-append) (omega arith)
+length-success id chapid s tail e = simp (length-chapPacket, length-append) (omega arith)
 
 pub length-successRequest : (id chapid : ℕ) (string text : List ℕ) → length (successRequest id chapid string text) ≡ successTextAt + length text
 unfolding successRequest
-length-successRequest id chapid string text = length-success id chapid (cells 40 (hexAt string)) text (length-cells 40 (hexAt string))
+length-successRequest id chapid string text = length-success id chapid (cells 40 (hexAt string)) (with-text text) (length-cells 40 (hexAt string)) ∙ omega arith
 
 pub length-failure : (id chapid : ℕ) (e : List ℕ) (r : ℕ) (c v text : List ℕ) → length c ≡ 32 → length (chapPacket 1 4 id chapid (failureMessage e r c v text)) ≡ 56 + length e + length v + length text
 unfolding failureMessage

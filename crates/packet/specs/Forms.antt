@@ -22,7 +22,10 @@ maxChallengeName = maxPacket - challengeNameAt
 abbrev pub responseNameAt : ℕ
 responseNameAt = 59
 
--- the text of a Success Request
+-- a Success Request's tail, and the text in it
+abbrev pub successTailAt : ℕ
+successTailAt = 51
+
 abbrev pub successTextAt : ℕ
 successTextAt = 54
 
@@ -45,9 +48,18 @@ wordV = 32 ∷ 86 ∷ 61 ∷ []
 abbrev pub wordM : List ℕ
 wordM = 32 ∷ 77 ∷ 61 ∷ []
 
--- `S=`, 40 digits, ` M=`, then any octets or none
-unfoldable pub successMessage : List ℕ → List ℕ → List ℕ
-successMessage s text = wordS ++ (s ++ (wordM ++ text))
+-- 02 [1]: "After the digits either nothing follows, or ` M=` and any octets"
+pub data Tail : Type 0 where
+  no-tail : Tail
+  with-text : List ℕ → Tail
+
+abbrev pub tailOctets : Tail → List ℕ
+tailOctets no-tail = []
+tailOctets (with-text text) = wordM ++ text
+
+-- `S=`, 40 digits, and the tail
+unfoldable pub successMessage : List ℕ → Tail → List ℕ
+successMessage s tail = wordS ++ (s ++ tailOctets tail)
 
 -- `E=` 1 to 10 digits, ` R=` a digit, ` C=` 32 digits, ` V=` 1 to 10 digits, ` M=`, then any octets or none
 unfoldable pub failureMessage : List ℕ → ℕ → List ℕ → List ℕ → List ℕ → List ℕ
@@ -84,9 +96,9 @@ eightZeros = 0 ∷ 0 ∷ 0 ∷ 0 ∷ 0 ∷ 0 ∷ 0 ∷ 0 ∷ []
 unfoldable pub responsePacket : ℕ → ℕ → List ℕ → List ℕ → List ℕ → List ℕ
 responsePacket id chapid peer response name = chapPacket 2 2 id chapid (49 ∷ (peer ++ (eightZeros ++ (response ++ (0 ∷ name)))))
 
--- the string of 20 octets in upper case
+-- the string of 20 octets in upper case, and a tail
 unfoldable pub successRequest : ℕ → ℕ → List ℕ → List ℕ → List ℕ
-successRequest id chapid string text = chapPacket 1 3 id chapid (successMessage (cells 40 (hexAt string)) text)
+successRequest id chapid string text = chapPacket 1 3 id chapid (successMessage (cells 40 (hexAt string)) (with-text text))
 
 -- no leading zeros, R as its digit, C in upper case, V=3
 unfoldable pub failureRequest : ℕ → ℕ → ℕ → ℕ → List ℕ → List ℕ → List ℕ
@@ -110,7 +122,7 @@ eapFailure id = 4 ∷ id ∷ 0 ∷ 4 ∷ []
 pub data Formed : End → List ℕ → Type 0 where
   a-challenge : (id chapid : ℕ) (challenge name : List ℕ) → length challenge ≡ 16 → 1 ≤ length name → Formed Peer (challengePacket id chapid challenge name)
   a-response : (id chapid : ℕ) (peer response name : List ℕ) → length peer ≡ 16 → length response ≡ 24 → length name ≤ maxName → Formed Server (responsePacket id chapid peer response name)
-  a-success-request : (id chapid : ℕ) (s text : List ℕ) → length s ≡ 40 → allHex false s ≡ true → Formed Peer (chapPacket 1 3 id chapid (successMessage s text))
+  a-success-request : (id chapid : ℕ) (s : List ℕ) (tail : Tail) → length s ≡ 40 → allHex false s ≡ true → Formed Peer (chapPacket 1 3 id chapid (successMessage s tail))
   a-failure-request : (id chapid : ℕ) (e : List ℕ) (retry : ℕ) (c v text : List ℕ) → FailureSpelling e retry c v → Formed Peer (chapPacket 1 4 id chapid (failureMessage e (48 + retry) c v text))
   a-success-response : (id : ℕ) → Formed Server (successResponse id)
   a-failure-response : (id : ℕ) → Formed Server (failureResponse id)

@@ -2,4 +2,5 @@ pub mod Forms
 pub mod Frame
 pub mod Inner
 pub mod Kinds
+pub mod Promises
 pub mod Reader

@@ -11,7 +11,7 @@ use Rattle.octets.specs.declared.Order.the-variants.{Big}
 use Rattle.answer.specs.Answer.{refusalOf}
 use Rattle.answer.specs.Outcome.{Told, gives, refuses}
 use Rattle.answer.specs.Sizes.{maxName}
-use Rattle.packet.specs.Forms.{challengeNameAt, responseNameAt, successTextAt, wordS, wordE, wordR, wordC, wordV, wordM, eightZeros}
+use Rattle.packet.specs.Forms.{challengeNameAt, responseNameAt, successTailAt, successTextAt, wordS, wordE, wordR, wordC, wordV, wordM, eightZeros}
 use Rattle.packet.specs.Frame.{codeOf, withType, framed, typed}
 use Rattle.packet.specs.declared.End.{End}
 use Rattle.packet.specs.declared.End.the-variants.{Peer, Server}
@@ -89,15 +89,19 @@ responseFormed q =
 unfoldable pub readResponse : List ℕ → Told Packet
 readResponse q = chapRow Response q (responseFormed q) 0 challengePlace ntResponsePlace responseNameAt
 
--- "message from 9": "`S=`, 40 hex digits with A to F in upper case, ` M=`, then any octets or none"
+-- "message from 9": "`S=`, 40 hex digits with A to F in upper case", and 02 [1]: "After the digits either nothing follows, or ` M=` and any octets"
 unfoldable pub successFormed : List ℕ → Bool
 successFormed q =
     pick (not (standsAt q 9 wordS)) false
     (pick (not (hexStands false q 11 40)) false
-    (standsAt q 51 wordM))
+    (eqb (length q) successTailAt || standsAt q successTailAt wordM))
+
+-- where the text starts: at L where there is no tail
+unfoldable pub textAt : List ℕ → ℕ
+textAt q = pick (eqb (length q) successTailAt) successTailAt successTextAt
 
 unfoldable pub readSuccess : List ℕ → Told Packet
-readSuccess q = chapRow SuccessRequest q (successFormed q) 0 nowhere stringPlace successTextAt
+readSuccess q = chapRow SuccessRequest q (successFormed q) 0 nowhere stringPlace (textAt q)
 
 -- "`E=` 1 to 10 digits, ` R=` 0 or 1, ` C=` 32 hex digits of either case, ` V=` 1 to 10 digits whose number is 3, ` M=`, then any octets or
 -- none": e digits after `E=`, and v after ` V=`

@@ -12,7 +12,7 @@ ghost use Rattle.answer.specs.Sizes.{maxPacket};
 ghost use Rattle.packet.specs.Frame.{frameOf, toldFrame};
 ghost use Rattle.packet.specs.Kinds.{kindNumber, isKind};
 ghost use Rattle.packet.specs.Inner.{Counted, failureRead, failureEnd, failureRest, failureMiddle, atPeer, atServer, atEnd};
-ghost use Rattle.packet.specs.Reader.{place, reading, toldReading, challengeFormed, readChallenge, responseFormed, readResponse, successFormed, readSuccess, failureOf, readFailure, readBare, readCut, readPacket};
+ghost use Rattle.packet.specs.Reader.{place, reading, toldReading, challengeFormed, readChallenge, responseFormed, readResponse, successFormed, textAt, readSuccess, failureOf, readFailure, readBare, readCut, readPacket};
 use answer::ChapId;
 use answer::Identifier;
 use answer::Refusal;
@@ -24,6 +24,9 @@ pub const CHALLENGE_NAME_AT: usize = 26;
 pub const RESPONSE_NAME_AT: usize = 59;
 
 pub const SUCCESS_TEXT_AT: usize = 54;
+
+// Where a Success message's tail starts, or L where it has none.
+const SUCCESS_TAIL_AT: usize = 51;
 
 const MAX_RESPONSE: usize = RESPONSE_NAME_AT + answer::MAX_NAME;
 
@@ -96,7 +99,7 @@ pub struct Packet {
     pub challenge: Place,
     // a Response's NT-Response; a Success Request's 40 digits
     pub response: Place,
-    // the name, or the text after M=
+    // the name, or the text after M=; it is empty and starts at L, 51, where a Success message ends with its digits
     pub tail: Place,
 }
 
@@ -239,7 +242,20 @@ fn success_formed(q: &[u8]) -> bool
     if !octets::hex_stands(false, q, 11, 40) {
         return false;
     }
-    octets::stands_at(q, 51, b" M=")
+    if q.len() == SUCCESS_TAIL_AT {
+        return true;
+    }
+    octets::stands_at(q, SUCCESS_TAIL_AT, b" M=")
+}
+
+// Where the text starts: at L where there is no tail.
+fn text_at(q: &[u8]) -> usize
+    ensures { λ r. ⌜ r ≡ textAt (now (q .entry)) ⌝ }
+{
+    if q.len() != SUCCESS_TAIL_AT {
+        return SUCCESS_TEXT_AT;
+    }
+    SUCCESS_TAIL_AT
 }
 
 fn read_success(q: &[u8]) -> Reading
@@ -251,7 +267,8 @@ fn read_success(q: &[u8]) -> Reading
     if !success_formed(q) {
         return Reading::Refused(Refusal::BadForm);
     }
-    chap_read(Kind::SuccessRequest, q, 0, NOWHERE, STRING, SUCCESS_TEXT_AT)
+    let text = text_at(q);
+    chap_read(Kind::SuccessRequest, q, 0, NOWHERE, STRING, text)
 }
 
 // Whether n is 1 to 10.

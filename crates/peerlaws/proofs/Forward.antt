@@ -2,16 +2,17 @@
 use Prim.Native.Nat.{ℕ, _≤_}
 use mathlib.Core.Path.{_≡_, refl, sym, ap, _∙_}
 use mathlib.Core.Bool.{Bool, true, false, not}
-use mathlib.Core.List.{List, []}
+use mathlib.Core.List.{List, [], _++_, append-nil}
 use native.Mathlib.Omega.{arith}
 use lib.ListN.{length, getD, take, length-take}
-use lib.Seq.{getD-take}
+use lib.Seq.{getD-take, take-at}
 use borrow.Author.Tests.{eq-eqb, ne-eqb, le-ltb}
 use Rattle.octets.specs.Choice.{pick}
+use Rattle.octets.specs.Lists.{part}
 use Rattle.octets.specs.Octets.{octetIs, same}
 use Rattle.octets.proofs.Exits.{pick-true, pick-false, arms, tested, clash}
 use Rattle.octets.proofs.Scans.{same-refl, same-true}
-use Rattle.answer.specs.Outcome.{Told, gives, Outcome, outcome, fitting}
+use Rattle.answer.specs.Outcome.{Told, gives, outcome, fitting}
 use Rattle.answer.specs.Sizes.{maxPacket, maxName}
 use Rattle.answer.proofs.Outcomes.{fitting-so}
 use Rattle.packet.specs.declared.End.the-variants as end
@@ -21,14 +22,17 @@ use Rattle.packet.specs.declared.Packet.{Packet}
 use Rattle.packet.specs.Forms.{successResponse, failureResponse}
 use Rattle.packet.specs.Kinds.{isRequest}
 use Rattle.packet.specs.Reader.{readPacket, challengeIn}
+use Rattle.packet.specs.Promises.{successReading}
+use Rattle.packet.proofs.Sizes.{length-success}
+use Rattle.packet.proofs.Back.{tail-size, success-back}
 use Rattle.packet.proofs.Readings.{tells, read-id}
 use Rattle.peer.specs.declared.Peer.{Peer}
 use Rattle.peer.specs.declared.Stage.{Stage}
 use Rattle.peer.specs.declared.Stage.the-variants.{Begin, ChallengeResponseSent, SuccessResponseSent, FailureResponseSent, Waiting, Success, Failed}
 use Rattle.peer.specs.State.{ownName, lastRequest, lastReply, lastId, responseTo, rightDigits, initial, staged, answered, responded, awaiting, supplied}
 use Rattle.peer.specs.Moves.{takes, moveOf, sent, waiting, repeats, misnumbered, turnOf}
-use Rattle.peer.specs.Calls.{newOf, renewedIn, digitsIn, confirmation, answerOf, nextOf, leftBy, leaving, movedOf, turnIn, takenOf, readOf, stepOf, responseBy, resumeOf, supplyOf}
-use Rattle.peerlaws.specs.Promises.{Unlike, AnyChapIdTaken}
+use Rattle.peer.specs.Calls.{newOf, renewedIn, digitsIn, says, writes, confirmation, answerOf, nextOf, leftBy, leaving, movedOf, turnIn, takenOf, readOf, stepOf, responseBy, resumeOf, supplyOf}
+use Rattle.peerlaws.specs.Promises.{AnyTailTaken, Unlike, AnyChapIdTaken}
 
 -- the Response to a Challenge
 abbrev pub responseIn : Peer → Packet → List ℕ → List ℕ → List ℕ
@@ -110,13 +114,18 @@ module _ (p : Peer) (s random : List ℕ) (room : ℕ) (k : Packet) (read : read
   unfolding movedOf answerOf leftBy nextOf pick
   responds-so e f r = request-at Begin Challenge refl refl e f (λ z. clash (ap sent e) z) ∙ fitting-so room p _ r
 
-  pub accepts-so : p .stage ≡ ChallengeResponseSent → k .kind ≡ SuccessRequest → (k .id .0 ≡ lastId p → ⊥) → digitsIn k q ≡ rightDigits p → 6 ≤ room
-      → stepOf p s random room ≡ outcome 0 (successResponse (k .id .0)) (answered SuccessResponseSent q (successResponse (k .id .0)) p)
-  unfolding movedOf answerOf confirmation rightDigits leftBy nextOf pick
-  accepts-so e f d h r =
-      request-at ChallengeResponseSent SuccessRequest refl refl e f (λ z. d)
-      ∙ ap (λ (a : Outcome (Unit {0})). fitting room p (leaving a (moveOf SuccessRequest) k q random p)) (pick-true _ _ _ (ap (λ (x : List ℕ). same x (rightDigits p)) h ∙ same-refl (rightDigits p)))
-      ∙ fitting-so room p _ r
+  -- a Success Request: by its digits
+  right-or-other : (b : Bool) → leaving (pick b (writes (successResponse (k .id .0))) (says 3)) (moveOf SuccessRequest) k q random p
+      ≡ pick b (outcome 0 (successResponse (k .id .0)) (answered SuccessResponseSent q (successResponse (k .id .0)) p)) (outcome 3 [] (staged Failed p))
+  unfolding leftBy nextOf pick
+  right-or-other true = refl
+  right-or-other false = refl
+
+  decides-so : p .stage ≡ ChallengeResponseSent → k .kind ≡ SuccessRequest → (k .id .0 ≡ lastId p → ⊥)
+      → stepOf p s random room ≡ fitting room p (pick (same (digitsIn k q) (rightDigits p)) (outcome 0 (successResponse (k .id .0)) (answered SuccessResponseSent q (successResponse (k .id .0)) p)) (outcome 3 [] (staged Failed p)))
+  unfolding movedOf answerOf confirmation rightDigits
+  decides-so e f d =
+      request-at ChallengeResponseSent SuccessRequest refl refl e f (λ z. d) ∙ ap (fitting room p) (right-or-other (same (digitsIn k q) (rightDigits p)))
 
   pub fails-so : p .stage ≡ ChallengeResponseSent → k .kind ≡ FailureRequest → (k .id .0 ≡ lastId p → ⊥) → 6 ≤ room
       → stepOf p s random room ≡ outcome 0 (failureResponse (k .id .0)) (answered FailureResponseSent q (failureResponse (k .id .0)) p)
@@ -134,6 +143,19 @@ module _ (p : Peer) (s random : List ℕ) (room : ℕ) (k : Packet) (read : read
   pub ends-so : p .stage ≡ FailureResponseSent → k .kind ≡ EapFailure → lastId p ≡ k .id .0 → stepOf p s random room ≡ outcome 3 [] (staged Failed p)
   unfolding movedOf answerOf leftBy pick
   ends-so e f i = end-at FailureResponseSent EapFailure refl refl e f i ∙ fitting-so room p _ (omega arith)
+
+-- ---- 2. a Success Request at any tail
+pub any-tail-taken : AnyTailTaken
+unfolding digitsIn
+any-tail-taken p i chapid digits tail q pad random room is few forty upper e d =
+    let k = successReading i chapid tail in
+    let size : length q ≡ k .length = ap length is ∙ length-success i chapid digits tail forty ∙ tail-size tail in
+    let back = success-back i chapid digits tail forty upper (rw size at few) in
+    let cut : take (k .length) (q ++ pad) ≡ q = take-at q pad (k .length) size in
+    let there : part q 11 40 ≡ digits = ap (λ (l : List ℕ). part l 11 40) (is ∙ sym (append-nil _)) ∙ back .response-is [] in
+    decides-so p (q ++ pad) random room k (ap (λ (l : List ℕ). readPacket end.Peer (l ++ pad)) is ∙ back .reads pad) e refl d
+    ∙ (λ j. fitting room p (pick (same (digitsIn k (cut j)) (rightDigits p)) (outcome 0 (successResponse i) (answered SuccessResponseSent (cut j) (successResponse i) p)) (outcome 3 [] (staged Failed p))))
+    ∙ (λ j. fitting room p (pick (same (there j) (rightDigits p)) (outcome 0 (successResponse i) (answered SuccessResponseSent q (successResponse i) p)) (outcome 3 [] (staged Failed p))))
 
 -- ---- 6. "the peer takes any MS-CHAPv2-ID"
 pub any-chapid-taken : AnyChapIdTaken

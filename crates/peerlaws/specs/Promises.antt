@@ -2,28 +2,28 @@
 use Prim.Native.Nat.{ℕ, _+_, _≤_}
 use mathlib.Core.Path.{_≡_}
 use mathlib.Core.List.{List, [], _∷_, _++_}
-use mathlib.Core.Bool.{true, _||_}
+use mathlib.Core.Bool.{true, false, _||_}
 use mathlib.Core.Logic.{_⊎_}
 use lib.ListN.{length, getD, take, drop, set}
 use lib.Dec.{eqb}
 use Rattle.octets.specs.Choice.{pick}
 use Rattle.octets.specs.Lists.{part, over}
-use Rattle.octets.specs.Octets.{numberAt}
+use Rattle.octets.specs.Octets.{same, numberAt, allHex}
 use Rattle.octets.specs.declared.Order.the-variants.{Big}
 use Rattle.answer.specs.Outcome.{gives, Outcome, outcome, refused, fitting, Does}
-use Rattle.answer.specs.Sizes.{maxName}
+use Rattle.answer.specs.Sizes.{maxPacket, maxName}
 use Rattle.packet.specs.declared.End.the-variants as end
 use Rattle.packet.specs.declared.Kind.the-variants as kind
 use Rattle.packet.specs.declared.Packet.{Packet}
 use Rattle.packet.specs.Kinds.{isRequest}
 use Rattle.packet.specs.Reader.{at, challengePlace, ntResponsePlace, readPacket, reading, place, nowhere}
-use Rattle.packet.specs.Forms.{responseNameAt, successResponse}
+use Rattle.packet.specs.Forms.{responseNameAt, Tail, successMessage, chapPacket, successResponse}
 use Rattle.mschap.specs.Users.{userOf}
 use Rattle.mschap.specs.Responses.{ntResponse, authenticatorOf, digitsOf}
 use Rattle.peer.specs.declared.Stage.{Stage}
 use Rattle.peer.specs.declared.Stage.the-variants.{Begin, ChallengeResponseSent, SuccessResponseSent, FailureResponseSent, Waiting, Success, Failed}
 use Rattle.peer.specs.declared.Peer.{Peer}
-use Rattle.peer.specs.State.{ownName, lastRequest, lastReply, lastId, responseTo, outstanding, rightDigits, supplied}
+use Rattle.peer.specs.State.{ownName, lastRequest, lastReply, lastId, responseTo, outstanding, rightDigits, staged, answered, supplied}
 use Rattle.peer.specs.Moves.{takes, moveOf, sent, waiting}
 use Rattle.peer.specs.Calls.{newOf, renewedIn, digitsIn, movedOf, stepOf, supplyOf}
 use Rattle.peerlaws.specs.Runs.{Call, step, supply, giveUp, callOf, roomOf, after, IsPeer, IsCall, AreCalls, Reached}
@@ -67,6 +67,16 @@ ByStep P p giveUp = ⊥
 
 abbrev pub SuccessOnlyIfRight : Type 0
 SuccessOnlyIfRight = (p : Peer) (c : Call) (id : ℕ) → callOf p c .octets ≡ successResponse id → ByStep Repeats p c ⊎ ByStep Confirms p c
+
+-- "Success Request, right string" and "other string", at any tail: the digits alone decide
+abbrev pub AnyTailTaken : Type 0
+AnyTailTaken =
+    (p : Peer) (i chapid : ℕ) (digits : List ℕ) (tail : Tail) (q pad random : List ℕ) (room : ℕ) →
+    q ≡ chapPacket 1 3 i chapid (successMessage digits tail) → length q ≤ maxPacket → length digits ≡ 40 → allHex false digits ≡ true →
+    p .stage ≡ ChallengeResponseSent → (i ≡ lastId p → ⊥) →
+    stepOf p (q ++ pad) random room ≡ fitting room p
+    (pick (same digits (rightDigits p)) (outcome 0 (successResponse i) (answered SuccessResponseSent q (successResponse i) p))
+    (outcome 3 [] (staged Failed p)))
 
 -- one of the calls brought it
 abbrev pub SomeConfirms : Peer → List Call → Type 0

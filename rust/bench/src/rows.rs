@@ -4,7 +4,9 @@ use std::hint::black_box;
 
 use compare::call::{by_archive, by_second, Call};
 use compare::layout::{peer_of, PEER, SERVER};
-use compare::packets::{account, challenge, eap, failure, response, short, success, Exchange};
+use compare::packets::{
+    account, bare_success, challenge, eap, failure, response, short, success, Exchange,
+};
 use second::packet::End;
 use second::Octets16;
 use zirgumtak::raw;
@@ -147,6 +149,11 @@ impl Rows<'_> {
                 response(ID, ID, &OWN, &[0x82; 24], b"User"),
             ),
             ("a Success Request", 0, success(ID, ID, &[0x40; 20], b"")),
+            (
+                "a Success Request without a tail",
+                0,
+                bare_success(ID, ID, &[0x40; 20]),
+            ),
             ("a Failure Request", 0, failure(ID, ID, 691, 1, &FRESH, b"")),
             ("a Success Response", 1, short(2, ID, 3)),
             ("a Failure Response", 1, short(2, ID, 4)),

@@ -43,6 +43,17 @@ pub fn success(id: u8, chapid: u8, string: &[u8; 20], text: &[u8]) -> Vec<u8> {
     long(1, id, 3, chapid, &[message.as_bytes(), text].concat())
 }
 
+/// A Success Request whose message ends with its digits.
+pub fn bare_success(id: u8, chapid: u8, string: &[u8; 20]) -> Vec<u8> {
+    long(
+        1,
+        id,
+        3,
+        chapid,
+        format!("S={}", upper_hex(string)).as_bytes(),
+    )
+}
+
 pub fn failure(id: u8, chapid: u8, code: u64, r: u8, c: &Octets16, text: &[u8]) -> Vec<u8> {
     let message = format!("E={code} R={r} C={} V=3 M=", upper_hex(c));
     long(1, id, 4, chapid, &[message.as_bytes(), text].concat())
@@ -135,7 +146,7 @@ pub fn any_packet(random: &mut Random) -> Vec<u8> {
     let challenge_octets = [random.below(2) as u8; 16];
     let (name, text) = (any_name(random), any_text(random));
     let code = random.pick(&[0, 646, 647, 648, 649, 691, 9_999_999_999]);
-    let mut packet = match random.below(11) {
+    let mut packet = match random.below(12) {
         0 | 1 => challenge(id, chapid, &challenge_octets, &text),
         2 => response(id, chapid, &random.array(), &random.array(), &name),
         3 => success(id, chapid, &random.array(), &text),
@@ -145,6 +156,7 @@ pub fn any_packet(random: &mut Random) -> Vec<u8> {
         7 => short(2, id, 4),
         8 => eap(3, id),
         9 => eap(4, id),
+        10 => bare_success(id, chapid, &random.array()),
         _ => name,
     };
     if random.once_in(4) {

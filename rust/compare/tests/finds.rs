@@ -136,3 +136,49 @@ fn a_wrong_guess_that_tells() {
         .expect("a difference")
         .starts_with("a wrong guess tells two tables apart"));
 }
+
+/// L of a packet that is a Success Request by its Code, Type and OpCode.
+fn success_length(packet: &[u8]) -> Option<u8> {
+    match packet {
+        [1, _, 0, length, 26, 3, ..] => Some(*length),
+        _ => None,
+    }
+}
+
+#[test]
+fn a_tail_insisted_on() {
+    let found = difference(|call, state, out| match call {
+        Call::Read { end: 0, packet } if success_length(packet) == Some(51) => {
+            by_second(call, state, out).max(17)
+        }
+        _ => by_second(call, state, out),
+    });
+    assert!(found.expect("a difference").contains("zt_read"));
+}
+
+#[test]
+fn one_octet_after_the_digits_taken() {
+    let found = difference(
+        |call, state, out| match (call, by_second(call, state, out)) {
+            (Call::Read { end: 0, packet }, 17) if success_length(packet) == Some(52) => 0,
+            (_, word) => word,
+        },
+    );
+    assert!(found.expect("a difference").contains("zt_read"));
+}
+
+/// A message that ends with its digits is refused where what follows it is not like a tail.
+#[test]
+fn padding_taken_for_a_tail() {
+    let found = difference(|call, state, out| match call {
+        Call::Read { end: 0, packet }
+            if success_length(packet) == Some(51)
+                && packet.len() > 51
+                && !packet[51..].starts_with(b" M=") =>
+        {
+            by_second(call, state, out).max(17)
+        }
+        _ => by_second(call, state, out),
+    });
+    assert!(found.expect("a difference").contains("zt_read"));
+}

@@ -52,7 +52,7 @@ pub struct Packet {
     /// The number after `S=` of a Success Request.
     pub string: AuthenticatorString,
     /// Start and length of the name (Challenge, Response) or of the text after `M=` (Success and
-    /// Failure Request).
+    /// Failure Request); at L where a Success message ends with its digits.
     pub tail: (usize, usize),
 }
 
@@ -195,12 +195,14 @@ fn response_form(packet: &[u8]) -> Option<Packet> {
     })
 }
 
-/// `S=`, 40 hex digits in upper case, ` M=`, any octets or none.
+/// `S=`, 40 hex digits in upper case; then nothing, or ` M=` and any octets or none.
 fn success_form(packet: &[u8]) -> Option<Packet> {
     let mut text = Text(&packet[MESSAGE..]);
     text.tag(b"S=")?;
     let string = text.hex(upper_digit)?;
-    text.tag(b" M=")?;
+    if !text.0.is_empty() {
+        text.tag(b" M=")?;
+    }
     Some(Packet {
         string,
         tail: (packet.len() - text.0.len(), text.0.len()),

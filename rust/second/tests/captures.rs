@@ -1,4 +1,4 @@
-//! Conversations between wpa_supplicant and hostapd, replayed at both ends.
+//! Conversations of wpa_supplicant with hostapd and with FreeRADIUS, replayed at both ends.
 
 mod common;
 
@@ -16,16 +16,20 @@ fn conversations() -> Vec<Conversation> {
     let mut all: Vec<Conversation> = Vec::new();
     let mut right = false;
     let mut fresh = false;
-    for line in include_str!("captures.txt").lines() {
+    let files = [
+        include_str!("captures.txt"),
+        include_str!("captures-keys.txt"),
+    ];
+    for line in files.iter().flat_map(|file| file.lines()) {
         if let Some(comment) = line.strip_prefix("# conversation") {
-            right = comment.ends_with("right password");
+            right = !comment.ends_with("wrong password");
             fresh = true;
             continue;
         }
-        if line.is_empty() || line.starts_with('#') {
+        let parts: Vec<&str> = line.split(" | ").collect();
+        if line.is_empty() || line.starts_with('#') || parts[2] == "key" {
             continue;
         }
-        let parts: Vec<&str> = line.split(" | ").collect();
         if fresh {
             all.push(Conversation {
                 user: parts[0].to_string(),
@@ -62,7 +66,7 @@ fn every_packet_reads() {
             }
         }
     }
-    assert_eq!(read, 50);
+    assert_eq!(read, 73);
 }
 
 #[test]
@@ -77,6 +81,11 @@ fn the_peer_says_what_was_captured() {
         let said = step_in(&mut peer, packets[1], &peer_challenge, ROOM);
         assert_eq!(said, (0, packets[2].to_vec()));
         let said = step(&mut peer, packets[3]);
+        if packets.len() == 4 {
+            // FreeRADIUS asked for another password, and wpa_supplicant left.
+            assert_eq!((said, peer.stage), ((1, vec![]), PeerStage::Waiting));
+            continue;
+        }
         assert_eq!(said, (0, packets[4].to_vec()));
         let expected = if conversation.right {
             (2, PeerStage::Success)
@@ -87,7 +96,7 @@ fn the_peer_says_what_was_captured() {
         assert_eq!(peer.stage, expected.1);
         right += usize::from(conversation.right);
     }
-    assert_eq!(right, 7);
+    assert_eq!(right, 11);
 }
 
 #[test]
@@ -97,7 +106,14 @@ fn the_server_judges_what_was_captured() {
         let sent = packet::read(End::Peer, packets[1]).unwrap();
         let mut server = Server::new();
         let mut buffer = [0; ROOM];
-        let answer = server.start(sent.id, &sent.challenge, b"hostapd", 0, &mut buffer);
+        let retries = u64::from(packets.len() == 4);
+        let answer = server.start(
+            sent.id,
+            &sent.challenge,
+            &packets[1][26..],
+            retries,
+            &mut buffer,
+        );
         assert_eq!(
             (answer, &buffer[..answer.1]),
             ((0, packets[1].len()), packets[1])
@@ -117,12 +133,20 @@ fn the_server_judges_what_was_captured() {
                 (2, packets[5].to_vec())
             );
         } else {
-            // What hostapd knew was another password.
+            // What the other server knew was another password.
             let other = account(0, &HASH, user);
             let (number, request) = packet(&mut twin, packets[2], &other);
-            assert_eq!((number, twin.stage), (0, ServerStage::FailureRequestSent));
             let request = packet::read(End::Peer, &request).unwrap();
-            assert_eq!((request.kind, request.code), (Kind::FailureRequest, 691));
+            let captured = packet::read(End::Peer, packets[3]).unwrap();
+            assert_eq!(
+                (number, request.kind, request.code),
+                (0, captured.kind, captured.code)
+            );
+            if packets.len() == 4 {
+                assert_eq!(twin.stage, ServerStage::ChallengeSent);
+                continue;
+            }
+            assert_eq!(twin.stage, ServerStage::FailureRequestSent);
             assert_eq!(packet(&mut twin, packets[4], &[]), (3, packets[5].to_vec()));
         }
     }

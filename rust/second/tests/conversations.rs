@@ -75,7 +75,7 @@ fn any_packet(random: &mut Random) -> Vec<u8> {
     let mut packet = match random.below(10) {
         0 => challenge(id, chapid, &[random.below(2) as u8; 16], &name),
         1 => response(id, chapid, &random.array(), &random.array(), &name),
-        2 => success(id, chapid, &string, "x"),
+        2 => success_and(id, chapid, &string, ["", " M=x"][random.below(2)]),
         3 => failure(id, chapid, random.next() % 1000, 0, &random.array(), ""),
         4 => failure(id, chapid, random.next() % 1000, 1, &random.array(), "y"),
         5 => short(2, id, 3),

@@ -130,12 +130,14 @@ fn stage_table() {
             failure(50, 1, 648, 1, &AUTHENTICATOR, ""),
             eap(3, id),
             eap(4, id),
+            success_and(50, 1, &right_string(&peer), ""),
+            success_and(50, 1, &wrong_string(&peer), ""),
         ];
         for (kind, packet) in packets.iter().enumerate() {
             let (expected, next) = match (stage, kind) {
                 (Begin, 0) => (0, ChallengeResponseSent),
-                (ChallengeResponseSent, 1) => (0, SuccessResponseSent),
-                (ChallengeResponseSent, 2) => (3, Failed),
+                (ChallengeResponseSent, 1 | 7) => (0, SuccessResponseSent),
+                (ChallengeResponseSent, 2 | 8) => (3, Failed),
                 (ChallengeResponseSent, 3) => (0, FailureResponseSent),
                 (ChallengeResponseSent, 4) => (1, Waiting),
                 (ChallengeResponseSent, 6) => (3, Failed),
@@ -151,7 +153,7 @@ fn stage_table() {
             taken += usize::from(number < 10);
         }
     }
-    assert_eq!(taken, 9);
+    assert_eq!(taken, 11);
 }
 
 #[test]
@@ -189,6 +191,11 @@ fn requests_after_the_response() {
             SuccessResponseSent,
             3,
         ),
+        (
+            success_and(8, 77, &right_string(&before), ""),
+            SuccessResponseSent,
+            3,
+        ),
         (failure(8, 77, 691, 0, &FRESH, "no"), FailureResponseSent, 4),
     ];
     for (packet, stage, op) in rows {
@@ -217,6 +224,12 @@ fn moves_that_set_the_stage_only() {
     let confirmed = made(SuccessResponseSent);
     let rows = [
         (&sent, success(8, 9, &wrong_string(&sent), ""), 3, Failed),
+        (
+            &sent,
+            success_and(8, 9, &wrong_string(&sent), ""),
+            3,
+            Failed,
+        ),
         (&sent, eap(4, 7), 3, Failed),
         (&confirmed, eap(3, 8), 2, Success),
         (&confirmed, eap(4, 8), 3, Failed),
@@ -331,7 +344,14 @@ fn supply_after_a_longer_name_leaves_zeros() {
 #[test]
 fn repeat_rule() {
     let sent = made(ChallengeResponseSent);
+    let bare = success_and(8, 9, &right_string(&sent), "");
+    let mut confirmed = sent.clone();
+    assert_eq!(step(&mut confirmed, &bare).0, 0);
+    // With a tail it is another Request under the same Identifier, which this stage does not take.
+    let tailed = success(8, 9, &right_string(&sent), "");
+    assert_eq!(step(&mut confirmed, &tailed).0, 19);
     let rows = [
+        (confirmed, bare),
         (sent.clone(), first_challenge()),
         (
             made(SuccessResponseSent),
@@ -347,11 +367,13 @@ fn repeat_rule() {
             step_in(&mut peer, &packet, &[0; 16], reply.len()),
             (0, reply.clone())
         );
-        let padding = [&packet[..], b"padding"].concat();
-        assert_eq!(
-            step_in(&mut peer, &padding, &[1; 16], ROOM),
-            (0, reply.clone())
-        );
+        for padding in [&b"padding"[..], b" M="] {
+            let padded = [&packet[..], padding].concat();
+            assert_eq!(
+                step_in(&mut peer, &padded, &[1; 16], ROOM),
+                (0, reply.clone())
+            );
+        }
         assert_eq!(step_in(&mut peer, &packet, &[0; 16], reply.len() - 1).0, 20);
         assert_eq!(step_in(&mut peer, &packet, &[0; 16], 0).0, 20);
         assert_eq!(peer, before);
@@ -387,6 +409,7 @@ fn wrong_identifiers() {
     let requests = [
         success(7, 9, &right_string(&sent), ""),
         success(7, 9, &wrong_string(&sent), ""),
+        success_and(7, 9, &right_string(&sent), ""),
         failure(7, 9, 691, 0, &FRESH, ""),
         failure(7, 9, 691, 1, &FRESH, ""),
     ];

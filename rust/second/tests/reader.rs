@@ -217,9 +217,6 @@ fn success_request_edges() {
             .tail,
         (54, 966)
     );
-    for end in 9..54 {
-        assert_eq!(peer(&long(1, 7, 3, 8, &packet[9..end])), Err(17));
-    }
     // Every octet before the text has a form: no other octet does, save another digit.
     for at in 9..54 {
         for octet in 0..=255u8 {
@@ -231,6 +228,58 @@ fn success_request_edges() {
             };
             assert_eq!(peer(&with(packet.clone(), at, octet)).is_ok(), fits);
         }
+    }
+}
+
+#[test]
+fn success_request_without_a_tail() {
+    let string: [u8; 20] = std::array::from_fn(|i| 0x0f ^ (i as u8 * 11));
+    let bare = success_and(7, 8, &string, "");
+    assert_eq!(bare.len(), 51);
+    let expected = Packet {
+        kind: Kind::SuccessRequest,
+        id: Identifier(7),
+        chapid: ChapId(8),
+        length: 51,
+        code: 0,
+        challenge: [0; 16],
+        response: [0; 24],
+        string,
+        tail: (51, 0),
+    };
+    assert_eq!(peer(&bare).unwrap(), expected);
+    // Padding is no tail, whatever it looks like.
+    for padding in [" M=", " M=text", " M", " m=", "0", "\0\0\0"] {
+        let padded = [&bare[..], padding.as_bytes()].concat();
+        assert_eq!(peer(&padded).unwrap(), expected);
+    }
+    // A message of 0 to 46 octets: 42 have no tail, 45 an empty text, 46 one of one octet.
+    let longest = success(7, 8, &string, "t");
+    for octets in 0..=46 {
+        let read = peer(&long(1, 7, 3, 8, &longest[9..9 + octets]));
+        let tail = match octets {
+            42 => Ok((51, 0)),
+            45 => Ok((54, 0)),
+            46 => Ok((54, 1)),
+            _ => Err(17),
+        };
+        assert_eq!(read.map(|packet| packet.tail), tail, "{octets} octets");
+    }
+    for tail in [
+        " ", " M", "M=", " m=", " M-", "  M=", "=M=", "0", "00", "\0", "\0\0\0", " S=", "M= ",
+    ] {
+        assert_eq!(peer(&success_and(7, 8, &string, tail)), Err(17), "{tail:?}");
+    }
+    // Fewer digits are not made up for by a tail or by padding.
+    for digits in 0..40 {
+        let cut = [&bare[9..11 + digits], b" M="].concat();
+        assert_eq!(peer(&long(1, 7, 3, 8, &cut)), Err(17));
+        let padded = [
+            &long(1, 7, 3, 8, &bare[9..11 + digits]),
+            &bare[11 + digits..],
+        ]
+        .concat();
+        assert_eq!(peer(&padded), Err(17));
     }
 }
 

@@ -51,7 +51,8 @@ impl Peer {
     }
 
     /// Takes a packet. The random octets are to be new at each call; they become the peer
-    /// challenge if a Response is made. A request that comes again brings the same reply again.
+    /// challenge if a Response is made. A request that comes again brings the same reply again. A
+    /// Success message may end with its 40 digits or go on with ` M=` and any text.
     ///
     /// Refusals, the first that holds: 10 to 17, 19, 18, 20.
     pub fn step<'b>(

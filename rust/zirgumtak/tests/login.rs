@@ -78,6 +78,22 @@ fn right_password() {
     assert_eq!(link.peer.stage(), PeerStage::Success);
 }
 
+/// The message ends with its digits, as FreeRADIUS writes it.
+#[test]
+fn success_without_a_message() {
+    let mut link = Link::new(&right(), 0);
+    assert_eq!((link.peer_takes(), link.server_takes()), (0, 0));
+    let whole = link.request.clone();
+    for (octets, number) in [(44, 17), (43, 17), (41, 17), (42, 0), (42, 0)] {
+        link.request = whole[..9 + octets].to_vec();
+        link.request[3] = 9 + octets as u8;
+        link.request[8] = 4 + octets as u8;
+        assert_eq!(link.peer_takes(), number, "{octets} octets");
+    }
+    assert_eq!(link.peer.stage(), PeerStage::SuccessResponseSent);
+    assert_eq!((link.server_takes(), link.peer_takes()), (2, 2));
+}
+
 #[test]
 fn second_try() {
     let mut link = Link::new(&WRONG, 1);

@@ -1,5 +1,7 @@
 use Rattle.packet.specs.Reader.{chapRow, readSuccess}
+use borrow.Author.Needs.{needs}
 use Rattle.octets.proofs.Exits.{exits, gave}
+use Rattle.packet.proofs.Steps.{success-by}
 use Rattle.packet.proofs.read_success.Statement.{statement}
 use Rattle.packet.proofs.read_success.Tie as tie
 
@@ -13,4 +15,5 @@ read-success-spec =
     (λ c κs. search exits)
     (λ c. search (exits, gave))
     (λ c κs. search exits)
-    (λ c. search (exits, gave)))
+    (λ c κs. search exits)
+    (λ c. search (needs, success-by)))

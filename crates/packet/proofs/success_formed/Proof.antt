@@ -14,5 +14,6 @@ success-formed-spec =
     (λ c κs. search exits)
     (λ c. search exits)
     (λ c. search exits)
+    (λ c. search exits)
     (λ c κs. search exits)
     (λ c. search exits))

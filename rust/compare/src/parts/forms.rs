@@ -4,8 +4,8 @@
 use crate::call::Call;
 use crate::layout::{PEER, SERVER};
 use crate::packets::{
-    account, challenge, eap, failure, long, set_length, set_lengths, short, success, upper_hex,
-    Exchange,
+    account, bare_success, challenge, eap, failure, long, set_length, set_lengths, short, success,
+    upper_hex, Exchange,
 };
 use crate::pair::{Pair, Run};
 use crate::random::Random;
@@ -74,7 +74,12 @@ fn each_length(pair: &mut Pair, moment: &Moment) -> Run<()> {
     Ok(())
 }
 
+/// With padding of any octets, and with padding that looks like a tail.
 fn padded(pair: &mut Pair, random: &mut Random, moment: &Moment) -> Run<()> {
+    for padding in [" ", " M", " M=", " M=text", " m=", "M=", "0", "00"] {
+        let packet = [&moment.packet[..], padding.as_bytes()].concat();
+        all_lengths(pair, moment, packet)?;
+    }
     let length = moment.packet.len();
     let wholes = [
         256, 265, 266, 282, 283, 315, 316, 1019, 1020, 1021, 1022, 1276, 65_535, 65_536,
@@ -113,6 +118,8 @@ fn peer_moments(pair: &mut Pair, exchange: &Exchange, id: u8) -> Run<Vec<Moment>
     let first = challenge(id, chapid, &exchange.theirs, b"srv");
     let right = success(next, chapid, &exchange.string(), b"ok");
     let wrong = success(next, chapid, &[0xab; 20], b"");
+    let bare = bare_success(next, chapid, &exchange.string());
+    let bare_wrong = bare_success(next, chapid, &[0xab; 20]);
     let [last, again] = [0, 1].map(|r| failure(next, chapid, 691, r, &[0xcd; 16], b"no"));
     let (eap_success, eap_failure) = (eap(3, next), eap(4, next));
 
@@ -130,6 +137,7 @@ fn peer_moments(pair: &mut Pair, exchange: &Exchange, id: u8) -> Run<Vec<Moment>
     };
     let responded = step(&begin, &first)?;
     let succeeded = step(&responded, &right)?;
+    let succeeded_bare = step(&responded, &bare)?;
     let failed = step(&responded, &last)?;
     let waiting = step(&responded, &again)?;
     Ok([
@@ -147,6 +155,11 @@ fn peer_moments(pair: &mut Pair, exchange: &Exchange, id: u8) -> Run<Vec<Moment>
         (&failed, &last),
         (&failed, &eap_failure),
         (&waiting, &again),
+        (&responded, &bare),
+        (&responded, &bare_wrong),
+        (&succeeded_bare, &bare),
+        (&succeeded_bare, &right),
+        (&succeeded_bare, &eap_success),
     ]
     .map(|(state, packet)| Moment {
         end: 0,
@@ -221,10 +234,11 @@ fn part<'a>(random: &mut Random, usual: &'a str, others: &[&'a str]) -> &'a str 
 fn any_success(random: &mut Random) -> String {
     let digits = any_digits(random, 40);
     let tag = part(random, "S=", &["s=", "S", " S=", "S =", "S= ", "E="]);
+    let usual = random.pick(&["", " M="]);
     let tail = part(
         random,
-        " M=",
-        &["", " M", "M=", "  M=", " m=", " M= ", " M=any text"],
+        usual,
+        &[" ", " M", "M=", "  M=", " m=", " M= ", " M=any text", "\0"],
     );
     format!("{tag}{digits}{tail}")
 }
@@ -282,7 +296,17 @@ fn any_digits(random: &mut Random, count: usize) -> String {
         1 => digits[..count / 2].make_ascii_lowercase(),
         _ => (),
     }
-    digits.truncate(random.pick(&[count, count, count, count, count, count - 1, count + 1]));
+    let counts = [
+        count - 1,
+        count,
+        count,
+        count,
+        count,
+        count,
+        count + 1,
+        count + 2,
+    ];
+    digits.truncate(random.pick(&counts));
     if random.once_in(8) {
         let at = random.below(digits.len());
         digits.replace_range(at..=at, random.pick(&["g", "G", "@", "`", "/", ":", " "]));

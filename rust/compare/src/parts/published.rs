@@ -1,5 +1,5 @@
-//! The published vectors, and conversations that wpa_supplicant and hostapd had: both programs
-//! agree, and with what was published and captured.
+//! The published vectors, and conversations that wpa_supplicant had with hostapd and FreeRADIUS:
+//! both programs agree, and with what was published and captured.
 
 use second::Octets16;
 
@@ -10,7 +10,10 @@ use crate::pair::{Answer, Difference, Pair, Run};
 use crate::random::Random;
 
 const VECTORS: &str = include_str!("../../../second/tests/base.txt");
-const CAPTURES: &str = include_str!("../../../second/tests/captures.txt");
+const CAPTURES: [&str; 2] = [
+    include_str!("../../../second/tests/captures.txt"),
+    include_str!("../../../second/tests/captures-keys.txt"),
+];
 const ROOM: usize = 400;
 
 pub fn run(pair: &mut Pair, random: &mut Random) -> Run<()> {
@@ -106,34 +109,42 @@ struct Conversation {
     user: Vec<u8>,
     password: Vec<u8>,
     right: bool,
-    /// Identity, Challenge, Response, Success or Failure Request, the reply, EAP Success or Failure.
+    /// Identity, Challenge, Response, Success or Failure Request, the reply, EAP Success or Failure;
+    /// the last two are missing where another password was asked for.
     packets: Vec<Vec<u8>>,
 }
 
 /// A line: user, password, sender and packet; a comment says where a conversation begins.
 fn conversations() -> Vec<Conversation> {
     let mut all: Vec<Conversation> = Vec::new();
-    for line in CAPTURES.lines() {
+    for line in CAPTURES.iter().flat_map(|file| file.lines()) {
         if let Some(comment) = line.strip_prefix("# conversation") {
             all.push(Conversation {
                 user: Vec::new(),
                 password: Vec::new(),
-                right: comment.ends_with("right password"),
+                right: !comment.ends_with("wrong password"),
                 packets: Vec::new(),
             });
         } else if !line.is_empty() && !line.starts_with('#') {
             let parts: Vec<&str> = line.split(" | ").collect();
+            if parts[2] == "key" {
+                continue;
+            }
             let last = all.last_mut().expect("a comment comes first");
             last.user = parts[0].as_bytes().to_vec();
             last.password = parts[1].encode_utf16().flat_map(u16::to_le_bytes).collect();
             last.packets.push(unhex(parts[3]));
         }
     }
-    assert_eq!(all.len(), 10);
+    assert_eq!(all.len(), 15);
     all
 }
 
 impl Conversation {
+    fn asked_again(&self) -> bool {
+        self.packets.len() == 4
+    }
+
     /// The challenges are those of the captured packets.
     fn exchange(&self, pair: &mut Pair) -> Run<Exchange> {
         let (_, hash) = pair.result(
@@ -170,7 +181,12 @@ fn peer_says_what_was_captured(pair: &mut Pair, conversation: &Conversation) -> 
         hash: &exchange.hash,
     };
     let (_, mut state, _) = pair.try_on(call, &[0; PEER], 0)?;
-    for (request, reply) in [(1, 2), (3, 4)] {
+    let replies: &[(usize, usize)] = if conversation.asked_again() {
+        &[(1, 2)]
+    } else {
+        &[(1, 2), (3, 4)]
+    };
+    for &(request, reply) in replies {
         let call = Call::PeerStep {
             packet: &packets[request],
             random: &exchange.own,
@@ -184,16 +200,20 @@ fn peer_says_what_was_captured(pair: &mut Pair, conversation: &Conversation) -> 
         state = after;
     }
     let call = Call::PeerStep {
-        packet: &packets[5],
+        packet: &packets[packets.len() - 1],
         random: &exchange.own,
     };
     let (answer, _, _) = pair.try_on(call, &state, ROOM)?;
-    let number = if conversation.right { 2 } else { 3 };
+    let number = match conversation {
+        _ if conversation.asked_again() => 1,
+        Conversation { right: true, .. } => 2,
+        _ => 3,
+    };
     expect("a peer's end", answer, Answer { number, n: 0 })
 }
 
 /// By the password that the peer had, every captured Response is right; by another one, the server
-/// says what hostapd said.
+/// says what the captured one said.
 fn server_judges_what_was_captured(pair: &mut Pair, conversation: &Conversation) -> Run<()> {
     let exchange = conversation.exchange(pair)?;
     let packets = &conversation.packets;
@@ -202,13 +222,13 @@ fn server_judges_what_was_captured(pair: &mut Pair, conversation: &Conversation)
         identifier: packets[1][1],
         challenge: &exchange.theirs,
         name: &packets[1][26..],
-        retries: 0,
+        retries: u64::from(conversation.asked_again()),
     };
     let (_, started, written) = pair.try_on(call, &fresh_server, ROOM)?;
     expect("a server's Challenge", &written, &packets[1])?;
 
     let known = account(0, &exchange.hash, exchange.user());
-    let (right, request) = judged(pair, &started, &packets[2], &known)?;
+    let (right, request) = judged(pair, &started, &packets[2], &known, &[0; 16])?;
     expect(
         "the stage after a right Response",
         right[at::STAGE],
@@ -218,24 +238,34 @@ fn server_judges_what_was_captured(pair: &mut Pair, conversation: &Conversation)
         return server_ends_as_captured(pair, packets, &right, &request);
     }
     let other = account(0, &[0; 16], exchange.user());
-    let (wrong, request) = judged(pair, &started, &packets[2], &other)?;
+    let c = std::str::from_utf8(&packets[3][C_DIGITS]).expect("digits");
+    let (wrong, request) = judged(pair, &started, &packets[2], &other, &unhex(c))?;
     server_ends_as_captured(pair, packets, &wrong, &request)
 }
 
 const SUCCESS_REQUEST_SENT: u8 = 2;
+/// After an E of three digits.
+const C_DIGITS: std::ops::Range<usize> = 21..53;
 
-/// The state after the Response, and the request written. C of a Failure Request is hostapd's.
-fn judged(pair: &mut Pair, state: &[u8], packet: &[u8], table: &[u8]) -> Run<(Vec<u8>, Vec<u8>)> {
+/// The state after the Response, and the request written.
+fn judged(
+    pair: &mut Pair,
+    state: &[u8],
+    packet: &[u8],
+    table: &[u8],
+    fresh: &[u8],
+) -> Run<(Vec<u8>, Vec<u8>)> {
     let call = Call::ServerPacket {
         packet,
         table,
-        fresh: &[0; 16],
+        fresh,
     };
     let (_, after, request) = pair.try_on(call, state, ROOM)?;
     Ok((after, request))
 }
 
-/// The request up to the text after M=, and the end of the conversation.
+/// The request up to the text after M=, or to the digits of a captured Success message that ends
+/// there, and the end of the conversation. FreeRADIUS writes C in lower case.
 fn server_ends_as_captured(
     pair: &mut Pair,
     packets: &[Vec<u8>],
@@ -243,11 +273,15 @@ fn server_ends_as_captured(
     request: &[u8],
 ) -> Run<()> {
     expect("the next Identifier", request[1], packets[3][1])?;
+    let common = 9..request.len().min(packets[3].len());
     expect(
         "a server's message",
-        &request[9..],
-        &packets[3][9..request.len()],
+        &request[common.clone()],
+        &packets[3][common].to_ascii_uppercase()[..],
     )?;
+    if packets.len() == 4 {
+        return Ok(());
+    }
     let call = Call::ServerPacket {
         packet: &packets[4],
         table: &[],

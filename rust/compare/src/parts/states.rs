@@ -6,7 +6,8 @@ use second::{mschap, Octets16};
 use crate::call::Call;
 use crate::layout::{at, peer_of, server_of, PEER, SERVER};
 use crate::packets::{
-    account, any_name, any_packet, challenge, eap, failure, mutate, response, short, success,
+    account, any_name, any_packet, bare_success, challenge, eap, failure, mutate, response, short,
+    success,
 };
 use crate::pair::{Pair, Run};
 use crate::random::Random;
@@ -125,8 +126,9 @@ fn any_peer(random: &mut Random) -> [u8; PEER] {
 /// What the state takes, the request that it keeps, or any packet.
 fn packet_for_peer(random: &mut Random, state: &mut [u8; PEER]) -> Vec<u8> {
     let (id, chapid) = (random.below(4) as u8, random.below(4) as u8);
-    match random.below(8) {
+    match random.below(9) {
         0 => success(id, chapid, &right_string(state), b""),
+        8 => bare_success(id, chapid, &right_string(state)),
         1 => failure(id, chapid, 691, random.below(2) as u8, &random.array(), b""),
         2 => challenge(id, chapid, &random.array(), b"srv"),
         3 => eap(random.pick(&[3, 4]), state[at::PEER_REQUEST + 1]),

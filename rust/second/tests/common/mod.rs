@@ -82,8 +82,13 @@ pub fn response(id: u8, chapid: u8, peer: &Octets16, nt: &[u8; 24], name: &[u8])
 }
 
 pub fn success(id: u8, chapid: u8, string: &[u8; 20], text: &str) -> Vec<u8> {
+    success_and(id, chapid, string, &format!(" M={text}"))
+}
+
+/// A Success Request in which that follows the digits.
+pub fn success_and(id: u8, chapid: u8, string: &[u8; 20], tail: &str) -> Vec<u8> {
     let digits: String = string.iter().map(|octet| format!("{octet:02X}")).collect();
-    long(1, id, 3, chapid, format!("S={digits} M={text}").as_bytes())
+    long(1, id, 3, chapid, format!("S={digits}{tail}").as_bytes())
 }
 
 pub fn failure(id: u8, chapid: u8, code: u64, r: u8, c: &Octets16, text: &str) -> Vec<u8> {
