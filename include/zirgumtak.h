@@ -161,7 +161,8 @@ uint64_t zt_peer_new(uint8_t *state, size_t state_len,
 /* Takes a packet from the server. The 16 random octets, new ones for each call, become the peer
  * challenge if a Response is made, and are not used otherwise. A request that comes again brings
  * the same reply again. A Success message may end with its 40 digits, as FreeRADIUS writes it, or
- * go on with " M=" and any text, as zt_server_packet writes it; anything else is ZT_BAD_FORM.
+ * go on with " M=" and any text or none, as zt_server_packet writes it; anything else is
+ * ZT_BAD_FORM.
  *   ZT_WRITTEN            the reply is to be sent
  *   ZT_NEEDS_CREDENTIALS  the server took name or password for wrong, and allows another try
  *   ZT_AUTHENTICATED      the server has shown that it knows the password, and said Success
