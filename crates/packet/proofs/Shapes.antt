@@ -9,13 +9,12 @@ use lib.Seq.{take-length}
 use lib.Dec.{ltb, leb, eqb}
 use borrow.Author.Tests.{ltb-false, leb-false, leb-true, eqb-true, eq-eqb, not-false}
 use Rattle.octets.specs.Lists.{cells, sized, part}
-use Rattle.octets.specs.Octets.{AreOctets, octetIs, standsAt, numberAt, allHex, hexAt, unhexAt, digits, number}
+use Rattle.octets.specs.Octets.{AreOctets, octetIs, standsAt, numberAt, allHex, digits, number}
 use Rattle.octets.specs.declared.Order.the-variants.{Big}
 use Rattle.octets.specs.Choice.{pick}
 use Rattle.octets.proofs.Exits.{both, passed, picked, tested, clash}
 use Rattle.octets.proofs.Lists.{sized-own}
 use Rattle.octets.proofs.Decimals.{digits-front}
-use Rattle.octets.proofs.Hex.{hex-unhex}
 use Rattle.octets.proofs.Parts.{octet-is, cut, cut-one, sized-part, length-part, part-inside, rest-none, stands-is, hex-stands-long, hex-stands-hex}
 use Rattle.packet.specs.declared.Kind.{Kind}
 use Rattle.packet.specs.declared.Kind.the-variants.{Challenge, Response, SuccessRequest}
@@ -37,6 +36,10 @@ passed-on false k t x z e = (refl, e)
 given : {x y : Packet} → gives y ≡ gives x → x ≡ y
 given e = sym (ap (λ (t : Told Packet). t .value) e)
 
+-- from a to L
+abbrev from : ℕ → List ℕ → Place
+from a q = place a (length (drop a q))
+
 record ChapShape (q : List ℕ) (formed : Bool) (x y : Packet) : Type 0 where
   long : 9 ≤ length q
   ms-length : numberAt Big q 7 ≡ length q - 5
@@ -44,7 +47,7 @@ record ChapShape (q : List ℕ) (formed : Bool) (x y : Packet) : Type 0 where
   reads : x ≡ y
 
 chap-shape : (kind : Kind) (q : List ℕ) (formed : Bool) (error : ℕ) (challenge response : Place) (tail : ℕ) (x : Packet) → chapRow kind q formed error challenge response tail ≡ gives x →
-    ChapShape q formed x (reading kind (getD q 1 0) (getD q 6 0) (length q) error challenge response (place tail (length (drop tail q))))
+    ChapShape q formed x (reading kind (getD q 1 0) (getD q 6 0) (length q) error challenge response (from tail q))
 unfolding chapRow
 chap-shape kind q formed error challenge response tail x e =
     let a = passed-on (ltb (length q) 9 || not (eqb (numberAt Big q 7) (length q - 5))) 16 _ x refl e in
@@ -80,7 +83,7 @@ chap-is q code op h k m o =
 -- ---- each packet
 pub record ChallengeShape (q : List ℕ) (x : Packet) : Type 0 where
   pub least : challengeNameAt < length q
-  pub reads : x ≡ reading Challenge (getD q 1 0) (getD q 6 0) (length q) 0 challengePlace nowhere (place challengeNameAt (length (drop challengeNameAt q)))
+  pub reads : x ≡ reading Challenge (getD q 1 0) (getD q 6 0) (length q) 0 challengePlace nowhere (from challengeNameAt q)
   pub is : AreOctets q → q ≡ challengePacket (getD q 1 0) (getD q 6 0) (part q 10 16) (drop challengeNameAt q)
 
 pub challenge-shape : (q : List ℕ) (x : Packet) → Head q 1 1 → readChallenge q ≡ gives x → ChallengeShape q x
@@ -101,7 +104,7 @@ challenge-shape q x h e =
 pub record ResponseShape (q : List ℕ) (x : Packet) : Type 0 where
   pub least : responseNameAt ≤ length q
   pub most : length q ≤ responseNameAt + maxName
-  pub reads : x ≡ reading Response (getD q 1 0) (getD q 6 0) (length q) 0 challengePlace ntResponsePlace (place responseNameAt (length (drop responseNameAt q)))
+  pub reads : x ≡ reading Response (getD q 1 0) (getD q 6 0) (length q) 0 challengePlace ntResponsePlace (from responseNameAt q)
   pub is : AreOctets q → q ≡ responsePacket (getD q 1 0) (getD q 6 0) (part q 10 16) (part q 34 24) (drop responseNameAt q)
 
 pub response-shape : (q : List ℕ) (x : Packet) → Head q 2 2 → readResponse q ≡ gives x → ResponseShape q x
@@ -126,10 +129,6 @@ response-shape q x h e =
       is = λ o. chap-is q 2 2 h (c .long) (c .ms-length) o ∙ ap (chapPacket 2 2 (getD q 1 0) (getD q 6 0)) body;
     }
 
--- where a name or text goes from a to L
-abbrev from : ℕ → List ℕ → Place
-from a q = place a (length (drop a q))
-
 -- what follows the digits is the tail that the place of the text tells of
 after-digits : (q : List ℕ) → successTailAt ≤ length q → (eqb (length q) successTailAt || standsAt q successTailAt wordM) ≡ true → (textAt q ≤ length q) × (drop successTailAt q ≡ tailOctets (tailIn (from (textAt q) q) q))
 unfolding textAt tailIn pick
@@ -141,12 +140,10 @@ after-digits q l e =
     let m : part q successTailAt 3 ≡ wordM = stands-is q successTailAt wordM (sym (ap (λ (b : Bool). b || standsAt q successTailAt wordM) f) ∙ e) in
     (part-inside q successTailAt 3 (ap length m) (omega arith), cut q successTailAt 3 successTextAt _ _ refl m (sym (take-length (drop successTextAt q)))))
 
--- the digits are exactly those that their 20 octets are written as
 pub record SuccessShape (q : List ℕ) (x : Packet) : Type 0 where
   pub least : successTailAt ≤ length q
   pub text : textAt q ≤ length q
   pub upper : allHex false (part q 11 40) ≡ true
-  pub string : cells 40 (hexAt (cells 20 (unhexAt (part q 11 40)))) ≡ part q 11 40
   pub reads : x ≡ reading SuccessRequest (getD q 1 0) (getD q 6 0) (length q) 0 nowhere stringPlace (from (textAt q) q)
   pub message : drop 9 q ≡ successMessage (part q 11 40) (tailIn (x .tail) q)
   pub is : AreOctets q → q ≡ chapPacket 1 3 (getD q 1 0) (getD q 6 0) (successMessage (part q 11 40) (tailIn (x .tail) q))
@@ -169,7 +166,6 @@ success-shape q x h e =
       least = l;
       text = t .0;
       upper = u;
-      string = hex-unhex (part q 11 40) 20 n u;
       reads = c .reads;
       message = body;
       is = λ o. chap-is q 1 3 h (c .long) (c .ms-length) o ∙ ap (chapPacket 1 3 (getD q 1 0) (getD q 6 0)) body;
@@ -182,7 +178,7 @@ pub record FailureShape (q : List ℕ) (x : Packet) : Type 0 where
   pub retry : ℕ
   pub least : 56 + a + b ≤ length q
   pub spelling : FailureSpelling (part q 11 a) retry (part q (18 + a) 32) (part q (53 + a) b)
-  pub reads : x ≡ reading (failureOf retry) (getD q 1 0) (getD q 6 0) (length q) (number (part q 11 a)) (place (18 + a) 32) nowhere (place (56 + a + b) (length (drop (56 + a + b) q)))
+  pub reads : x ≡ reading (failureOf retry) (getD q 1 0) (getD q 6 0) (length q) (number (part q 11 a)) (place (18 + a) 32) nowhere (from (56 + a + b) q)
   pub is : AreOctets q → q ≡ chapPacket 1 4 (getD q 1 0) (getD q 6 0) (failureMessage (part q 11 a) (48 + retry) (part q (18 + a) 32) (part q (53 + a) b) (drop (56 + a + b) q))
 
 -- R's digit

@@ -12,6 +12,13 @@ struct Conversation {
     packets: Vec<(String, Vec<u8>)>,
 }
 
+impl Conversation {
+    /// FreeRADIUS asked for another password, and wpa_supplicant left.
+    fn asked_again(&self) -> bool {
+        self.packets.len() == 4
+    }
+}
+
 fn conversations() -> Vec<Conversation> {
     let mut all: Vec<Conversation> = Vec::new();
     let mut right = false;
@@ -81,8 +88,7 @@ fn the_peer_says_what_was_captured() {
         let said = step_in(&mut peer, packets[1], &peer_challenge, ROOM);
         assert_eq!(said, (0, packets[2].to_vec()));
         let said = step(&mut peer, packets[3]);
-        if packets.len() == 4 {
-            // FreeRADIUS asked for another password, and wpa_supplicant left.
+        if conversation.asked_again() {
             assert_eq!((said, peer.stage), ((1, vec![]), PeerStage::Waiting));
             continue;
         }
@@ -106,7 +112,7 @@ fn the_server_judges_what_was_captured() {
         let sent = packet::read(End::Peer, packets[1]).unwrap();
         let mut server = Server::new();
         let mut buffer = [0; ROOM];
-        let retries = u64::from(packets.len() == 4);
+        let retries = u64::from(conversation.asked_again());
         let answer = server.start(
             sent.id,
             &sent.challenge,
@@ -142,7 +148,7 @@ fn the_server_judges_what_was_captured() {
                 (number, request.kind, request.code),
                 (0, captured.kind, captured.code)
             );
-            if packets.len() == 4 {
+            if conversation.asked_again() {
                 assert_eq!(twin.stage, ServerStage::ChallengeSent);
                 continue;
             }

@@ -193,23 +193,27 @@ fn response_edges() {
     }
 }
 
+/// A Success Request of that length, with no text.
+fn success_read(string: [u8; 20], length: usize) -> Packet {
+    Packet {
+        kind: Kind::SuccessRequest,
+        id: Identifier(7),
+        chapid: ChapId(8),
+        length,
+        code: 0,
+        challenge: [0; 16],
+        response: [0; 24],
+        string,
+        tail: (length, 0),
+    }
+}
+
 #[test]
 fn success_request_edges() {
     let string: [u8; 20] = std::array::from_fn(|i| 0xf0 ^ (i as u8 * 13));
     let packet = success(7, 8, &string, "");
     assert_eq!(packet.len(), 54);
-    let expected = Packet {
-        kind: Kind::SuccessRequest,
-        id: Identifier(7),
-        chapid: ChapId(8),
-        length: 54,
-        code: 0,
-        challenge: [0; 16],
-        response: [0; 24],
-        string,
-        tail: (54, 0),
-    };
-    assert_eq!(peer(&packet).unwrap(), expected);
+    assert_eq!(peer(&packet).unwrap(), success_read(string, 54));
     assert_eq!(peer(&success(7, 8, &string, "OK")).unwrap().tail, (54, 2));
     assert_eq!(
         peer(&success(7, 8, &string, &"t".repeat(966)))
@@ -236,17 +240,7 @@ fn success_request_without_a_tail() {
     let string: [u8; 20] = std::array::from_fn(|i| 0x0f ^ (i as u8 * 11));
     let bare = success_and(7, 8, &string, "");
     assert_eq!(bare.len(), 51);
-    let expected = Packet {
-        kind: Kind::SuccessRequest,
-        id: Identifier(7),
-        chapid: ChapId(8),
-        length: 51,
-        code: 0,
-        challenge: [0; 16],
-        response: [0; 24],
-        string,
-        tail: (51, 0),
-    };
+    let expected = success_read(string, 51);
     assert_eq!(peer(&bare).unwrap(), expected);
     // Padding is no tail, whatever it looks like.
     for padding in [" M=", " M=text", " M", " m=", "0", "\0\0\0"] {
