@@ -1,11 +1,15 @@
--- `numberOf` tells answers apart.
+-- The number of an answer is one of the list, and tells answers apart.
 use Prim.Native.Nat.{ℕ}
 use mathlib.Core.Path.{_≡_, refl, sym, ap, _∙_}
 use mathlib.Core.List.{List, [], _∷_}
+use mathlib.Core.Logic.{inl, inr}
+use native.Mathlib.Omega.{arith}
 use lib.ListN.{getD}
-use Rattle.answer.specs.Answer.{numberOf}
+use Rattle.answer.specs.Answer.{refusalOf, numberOf}
+use Rattle.answer.specs.Promises.{IsRefusal, NumbersListed, NumbersApart}
 use Rattle.answer.specs.declared.Answer.{Answer}
 use Rattle.answer.specs.declared.Answer.the-variants.{Written, NeedsCredentials, Authenticated, Ended, Refused}
+use Rattle.answer.specs.declared.Refusal.{Refusal}
 use Rattle.answer.specs.declared.Refusal.the-variants.{Short, BadLength, TooLong, BadCode, BadType, BadOpCode, BadMsLength, BadForm, WrongIdentifier, NotTaken, NoRoom, BadTable, SameChallenge, BadArgument}
 
 -- the answer of each number from 0 to 23; 4 to 9 are no answer's numbers, and anything stands there
@@ -38,5 +42,29 @@ back (Refused BadTable) = refl
 back (Refused SameChallenge) = refl
 back (Refused BadArgument) = refl
 
-pub numbers-apart : (a b : Answer) → numberOf a ≡ numberOf b → a ≡ b
+pub numbers-apart : NumbersApart
 numbers-apart a b e = sym (back a) ∙ ap (λ (n : ℕ). getD answers n Written) e ∙ back b
+
+-- ---- "What a call answers": 0 to 3 and 10 to 23
+refusals-listed : (why : Refusal) → IsRefusal (refusalOf why)
+refusals-listed Short = (omega arith, omega arith)
+refusals-listed BadLength = (omega arith, omega arith)
+refusals-listed TooLong = (omega arith, omega arith)
+refusals-listed BadCode = (omega arith, omega arith)
+refusals-listed BadType = (omega arith, omega arith)
+refusals-listed BadOpCode = (omega arith, omega arith)
+refusals-listed BadMsLength = (omega arith, omega arith)
+refusals-listed BadForm = (omega arith, omega arith)
+refusals-listed WrongIdentifier = (omega arith, omega arith)
+refusals-listed NotTaken = (omega arith, omega arith)
+refusals-listed NoRoom = (omega arith, omega arith)
+refusals-listed BadTable = (omega arith, omega arith)
+refusals-listed SameChallenge = (omega arith, omega arith)
+refusals-listed BadArgument = (omega arith, omega arith)
+
+pub numbers-listed : NumbersListed
+numbers-listed Written = inl (omega arith)
+numbers-listed NeedsCredentials = inl (omega arith)
+numbers-listed Authenticated = inl (omega arith)
+numbers-listed Ended = inl (omega arith)
+numbers-listed (Refused why) = inr (refusals-listed why)

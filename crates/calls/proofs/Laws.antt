@@ -1,7 +1,7 @@
 -- How a call at the boundary ends.
 use Prim.Native.Nat.{ℕ, _-_, _/_, _%_, _≤_, _<_}
 use native.Mathlib.Omega.{arith}
-use mathlib.Core.Path.{_≡_, sym, ap, _∙_}
+use mathlib.Core.Path.{_≡_, refl, sym, ap, _∙_}
 use mathlib.Core.List.{List, []}
 use lib.ListN.{length, take}
 use lib.Seq.{length-take-le, getD-take, ext-getD}
@@ -14,9 +14,13 @@ use Rattle.answer.specs.Outcome.{Told, Outcome, Does}
 use Rattle.answer.specs.declared.Identifier.{Identifier}
 use Rattle.answer.specs.Answer.{refusalOf}
 use Rattle.answer.specs.declared.Refusal.{Refusal}
+use Rattle.answer.proofs.Told.{refusal-some}
+use Rattle.packet.specs.declared.Framed.{Framed}
+use Rattle.packet.specs.declared.Framed.the-variants as frame
 use Rattle.packet.specs.declared.Packet.{Packet}
 use Rattle.packet.specs.declared.Reading.{Reading}
 use Rattle.packet.specs.declared.Reading.the-variants.{Refused, Read}
+use Rattle.packet.specs.Frame.{toldFrame}
 use Rattle.packet.specs.Reader.{toldReading}
 use Rattle.des.specs.Des.{enciphered}
 use Rattle.mschap.specs.Answers.{passwordHashTold, ntResponseTold, authenticatorTold}
@@ -31,7 +35,7 @@ use Rattle.state.specs.ServerOctets.{serverOctets, serverOf, octetsOfServer}
 use Rattle.state.proofs.Puts.{stored-so}
 use Rattle.calls.specs.Done.{wordOf, done, ended, Encoded, made, given, givenBy}
 use Rattle.calls.specs.Ends.{begun, serverNewAt}
-use Rattle.calls.specs.Stateless.{unitAt, unitsOf}
+use Rattle.calls.specs.Stateless.{unitAt, unitsOf, endless}
 
 -- ---- the word: number and n can be read back, and no bit is set above them
 pub number-back : (k n : ℕ) → k < 256 → wordOf k n % 256 ≡ k
@@ -98,6 +102,14 @@ read-refused x why k w e f g = rw e (g ∙ ap (λ (j : ℕ). wordOf j 0) f)
 
 pub read-read : (x : Reading) (k : Packet) (w : ℕ) → x ≡ Read k → w ≡ wordOf 0 0 → w ≡ wordOf (toldReading x .number) 0
 read-read x k w e g = rw e g
+
+pub frame-refused : (x : Framed) (why : Refusal) (k w : ℕ) → x ≡ frame.Refused why → k ≡ refusalOf why → w ≡ wordOf k 0 → w ≡ wordOf (endless (toldFrame x)) 0
+unfolding endless
+frame-refused x why k w e f g = rw e (g ∙ ap (λ (j : ℕ). wordOf j 0) (f ∙ sym (pick-false _ _ _ (refusal-some why))))
+
+pub frame-of : (x : Framed) (l w : ℕ) → x ≡ frame.Of l → w ≡ wordOf 23 0 → w ≡ wordOf (endless (toldFrame x)) 0
+unfolding endless
+frame-of x l w e g = rw e (g ∙ ap (λ (j : ℕ). wordOf j 0) (sym (pick-true _ _ _ refl)))
 
 pub given-so : (k m : ℕ) (q out after : List ℕ) (w : ℕ) → k ≡ m → k < 10 → after ≡ put out 0 q → length q ≡ length out → w ≡ wordOf k 0 → made w after ≡ given m q out
 unfolding given

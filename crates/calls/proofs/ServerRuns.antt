@@ -2,30 +2,30 @@
 use Prim.Native.Nat.{ℕ}
 use native.Mathlib.Omega.{arith}
 use mathlib.Core.Path.{_≡_, refl, sym, ap, _∙_}
-use mathlib.Core.List.{List, [], _∷_}
-use mathlib.Core.Bool.{true}
+use mathlib.Core.List.{List, [], _∷_, map}
+use mathlib.Core.Bool.{Bool, true, _&&_, and-true}
 use lib.ListN.{length}
 use lib.Dec.{ltb}
 use borrow.Author.Tests.{eqb-true, eq-eqb}
 use Rattle.octets.specs.Choice.{pick}
-use Rattle.octets.proofs.Exits.{pick-true}
+use Rattle.octets.proofs.Exits.{pick-true, pick-false, tested}
 use Rattle.octets.proofs.Lists.{length-sized}
-use Rattle.answer.specs.Outcome.{Outcome}
+use Rattle.answer.specs.Outcome.{Outcome, outcome}
 use Rattle.answer.specs.declared.Identifier.{Identifier}
 use Rattle.server.specs.declared.Stage.{Stage}
 use Rattle.server.specs.declared.Server.{Server}
-use Rattle.server.specs.State.{requestRoom, asked, staged}
+use Rattle.server.specs.State.{requestRoom, initial, asked, staged}
 use Rattle.answer.specs.Runs.{run}
 use Rattle.server.specs.Runs.{Call, starts, brings, resends, replyOf, outcomeOf, Answered, serverStep}
-use Rattle.server.specs.Guess.{Side, one, two, lentTo, callsOf, NotRight, NoneRight}
+use Rattle.server.specs.Guess.{Side, one, two, lentTo, NotRight}
 use Rattle.server.specs.Effects.{Effect, refusing, starting, granting, denying, retrying, rejecting, confirming, ending, resending}
 use Rattle.server.proofs.Effects.{effect}
 use Rattle.server.proofs.WrongGuess.{wrong-guess}
 use Rattle.state.specs.ServerOctets.{serverOctets, serverOf, octetsOfServer, IsServer}
 use Rattle.state.proofs.Trips.{server-back, is-server, length-octets-of-server}
-use Rattle.calls.specs.Done.{wordOf, Done, done, ended}
-use Rattle.calls.specs.Ends.{isServer, isSixteen, serverStartAt, serverPacketAt, serverResendAt}
-use Rattle.calls.specs.Run.{Shown, runAt, serverCallAt, areSixteen, serverCall, ServerCarried, WrongGuessAt}
+use Rattle.calls.specs.Done.{wordOf, Done, done, unsized, ended}
+use Rattle.calls.specs.Ends.{isServer, isSixteen, serverNewAt, serverStartAt, serverPacketAt, serverResendAt}
+use Rattle.calls.specs.Run.{runAt, ServerCall, renews, calls, serverReply, serverCallAt, areSixteen, serverCall, ServerCarried, lentAt, NotRightAt, NoneRightAt, WrongGuessAt}
 use Rattle.calls.proofs.Carry.{Shows, carry, Proper, ended-shows, sized-shows}
 
 -- ---- every call leaves a value of the struct, and a refused one the state that it took
@@ -53,64 +53,81 @@ server-ended : (c : Call (List ℕ)) (s : List ℕ) → length s ≡ serverOctet
 server-ended c s h e =
     ended-shows octetsOfServer serverOf IsServer serverOctets server-back length-octets-of-server _ s (replyOf c) h (proper (serverOf s) (effect (serverOf s) c) e (is-server s))
 
-server-shows : (c : Call (List ℕ)) (s : List ℕ) → length s ≡ serverOctets → Shows serverOf serverOctets (serverCallAt s c) (serverCall (serverOf s) c) (replyOf c)
+is-initial : IsServer initial
+unfolding initial
+is-initial = record { challenge = refl; request = refl }
+
+new-shows : (s : List ℕ) → length s ≡ serverOctets → Shows serverOf serverOctets (serverNewAt s) (outcome 0 [] initial) []
+unfolding serverNewAt wordOf
+new-shows s h =
+    rw (pick-true (isServer s) _ _ (eq-eqb _ _ h))
+    (record { same = (λ i. record { word = 0; reply = []; state = server-back initial is-initial i }); long = length-octets-of-server initial is-initial })
+
+server-shows : (c : ServerCall (List ℕ)) (s : List ℕ) → length s ≡ serverOctets → Shows serverOf serverOctets (serverCallAt s c) (serverCall (serverOf s) c) (serverReply c)
 unfolding serverStartAt serverPacketAt serverResendAt
-server-shows (starts id challenge name retries reply) s h =
+server-shows renews s h = new-shows s h
+server-shows (calls (starts id challenge name retries reply)) s h =
     sized-shows serverOf serverOctets (isServer s) (isSixteen challenge) _ s reply _ (eq-eqb _ _ h) h (server-ended (starts id challenge name retries reply) s h)
-server-shows (brings packet table fresh reply) s h =
+server-shows (calls (brings packet table fresh reply)) s h =
     sized-shows serverOf serverOctets (isServer s) (isSixteen fresh) _ s reply _ (eq-eqb _ _ h) h (server-ended (brings packet table fresh reply) s h)
-server-shows (resends reply) s h =
+server-shows (calls (resends reply)) s h =
     rw (pick-true (isServer s) _ _ (eq-eqb _ _ h), pick-true true _ _ refl) (server-ended (resends reply) s h refl)
 
 pub server-carried : ServerCarried
-server-carried = carry serverOf serverOctets serverCallAt serverCall replyOf server-shows
+server-carried = carry serverOf serverOctets serverCallAt serverCall serverReply server-shows
 
 -- ---- the wrong-guess rule
 -- an answer, told in octets
 abbrev toldIn : List ℕ → Answered → Done
 toldIn s a = done (wordOf (a .number) (a .n)) (pick (ltb (a .number) 10) (octetsOfServer (a .state)) s) (a .reply)
 
-told-at : (c : Call (List ℕ)) (s : List ℕ) → length s ≡ serverOctets → areSixteen c ≡ true → serverCallAt s c ≡ toldIn s (serverStep (serverOf s) c)
+-- a call at the boundary: the sizes, and then what the server answers
+told-at : (c : Call (List ℕ)) (s : List ℕ) → serverCallAt s (calls c) ≡ pick (isServer s && areSixteen c) (toldIn s (serverStep (serverOf s) c)) (unsized s (replyOf c))
 unfolding serverStartAt serverPacketAt serverResendAt ended serverStep
-told-at (starts id challenge name retries reply) s h e = rw (eq-eqb (length s) serverOctets h, e) (pick-true true _ _ refl)
-told-at (brings packet table fresh reply) s h e = rw (eq-eqb (length s) serverOctets h, e) (pick-true true _ _ refl)
-told-at (resends reply) s h e = rw (eq-eqb (length s) serverOctets h) (pick-true true _ _ refl)
-
-state-at : (c : Call (List ℕ)) (s : List ℕ) → length s ≡ serverOctets → areSixteen c ≡ true → serverOf (serverCallAt s c .state) ≡ serverStep (serverOf s) c .state
-unfolding serverStep
-state-at c s h e =
-    ap (λ (v : Shown Server). v .state) (server-shows c s h .same) ∙ ap (λ (o : Outcome Server). o .state) (pick-true (areSixteen c) _ _ e)
+told-at (starts id challenge name retries reply) s = refl
+told-at (brings packet table fresh reply) s = refl
+told-at (resends reply) s = ap (λ (b : Bool). pick b (toldIn s (serverStep (serverOf s) (resends reply))) (unsized s reply)) (sym (and-true (isServer s)))
 
 first : {A : Type 0} → A → List A → A
 first d [] = d
 first d (x ∷ xs) = x
 
--- one call
+-- one call, by value
 one-call : (s : Server) (c : Call (Side → List ℕ)) → ((x : Side) → NotRight s (lentTo x c)) → serverStep s (lentTo one c) ≡ serverStep s (lentTo two c)
 unfolding run first
 one-call s c h = ap (first (serverStep s (lentTo one c))) (wrong-guess s (c ∷ []) (λ x. (h x, tt)))
 
-sixteen-lent : (x : Side) (c : Call (Side → List ℕ)) → areSixteen c ≡ true → areSixteen (lentTo x c) ≡ true
-sixteen-lent x (starts id challenge name retries reply) e = e
-sixteen-lent x (brings packet table fresh reply) e = e
-sixteen-lent x (resends reply) e = e
+-- what is lent to both is of the same size
+sixteen-lent : (x : Side) (c : Call (Side → List ℕ)) → areSixteen (lentTo x c) ≡ areSixteen c
+sixteen-lent x (starts id challenge name retries reply) = refl
+sixteen-lent x (brings packet table fresh reply) = refl
+sixteen-lent x (resends reply) = refl
+
+reply-lent : (x : Side) (c : Call (Side → List ℕ)) → replyOf (lentTo x c) ≡ replyOf c
+reply-lent x (starts id challenge name retries reply) = refl
+reply-lent x (brings packet table fresh reply) = refl
+reply-lent x (resends reply) = refl
+
+-- one call, at the boundary
+one-at : (s : List ℕ) (c : ServerCall (Side → List ℕ)) → ((x : Side) → NotRightAt s (lentAt x c)) → serverCallAt s (lentAt one c) ≡ serverCallAt s (lentAt two c)
+one-at s renews h = refl
+one-at s (calls c) h =
+    let told : (x : Side) → serverCallAt s (calls (lentTo x c)) ≡ pick (isServer s && areSixteen c) (toldIn s (serverStep (serverOf s) (lentTo x c))) (unsized s (replyOf c)) =
+    λ x. told-at (lentTo x c) s ∙ (λ i. pick (isServer s && sixteen-lent x c i) (toldIn s (serverStep (serverOf s) (lentTo x c))) (unsized s (reply-lent x c i))) in
+    told one
+    ∙ tested (isServer s && areSixteen c)
+    (λ e. ap (λ (a : Answered). pick (isServer s && areSixteen c) (toldIn s a) (unsized s (replyOf c))) (one-call (serverOf s) c (λ x. h x (ap (λ (b : Bool). isServer s && b) (sixteen-lent x c) ∙ e))))
+    (λ e. pick-false _ _ _ e ∙ sym (pick-false _ _ _ e))
+    ∙ sym (told two)
 
 pub wrong-guess-at : WrongGuessAt
 unfolding run
-wrong-guess-at s [] h f g = refl
-wrong-guess-at s (c ∷ cs) h f g =
-    let p = serverOf s in
-    let c1 = lentTo one c in
-    let c2 = lentTo two c in
-    let f1 = sixteen-lent one c (f .0) in
-    let f2 = sixteen-lent two c (f .0) in
-    let a : serverStep p c1 ≡ serverStep p c2 = one-call p c (λ x. g x .0) in
-    let d : serverCallAt s c1 ≡ serverCallAt s c2 = told-at c1 s h f1 ∙ ap (toldIn s) a ∙ sym (told-at c2 s h f2) in
-    let e1 : serverStep p c1 .state ≡ serverOf (serverCallAt s c1 .state) = sym (state-at c1 s h f1) in
-    let e2 : serverStep p c2 .state ≡ serverOf (serverCallAt s c1 .state) = ap (λ (v : Answered). v .state) (sym a) ∙ e1 in
-    let t = wrong-guess-at (serverCallAt s c1 .state) cs (server-shows c1 s h .long) (f .1) (next g e1 e2) in
-    (λ i. d i ∷ (t ∙ ap (λ (v : Done). runAt serverCallAt (v .state) (callsOf two cs)) d) i)
+wrong-guess-at s [] g = refl
+wrong-guess-at s (c ∷ cs) g =
+    let d : serverCallAt s (lentAt one c) ≡ serverCallAt s (lentAt two c) = one-at s c (λ x. g x .0) in
+    let t = wrong-guess-at (serverCallAt s (lentAt one c) .state) cs (next g d) in
+    (λ i. d i ∷ (t ∙ ap (λ (v : Done). runAt serverCallAt (v .state) (map (lentAt two) cs)) d) i)
   where
-    next : ((x : Side) → NoneRight serverStep (serverOf s) (callsOf x (c ∷ cs))) → serverStep (serverOf s) (lentTo one c) .state ≡ serverOf (serverCallAt s (lentTo one c) .state) → serverStep (serverOf s) (lentTo two c) .state ≡ serverOf (serverCallAt s (lentTo one c) .state) → (x : Side) → NoneRight serverStep (serverOf (serverCallAt s (lentTo one c) .state)) (callsOf x cs)
-    next g e1 e2 one = rw (← e1) (g one .1)
-    next g e1 e2 two = rw (← e2) (g two .1)
+    next : ((x : Side) → NoneRightAt s (map (lentAt x) (c ∷ cs))) → serverCallAt s (lentAt one c) ≡ serverCallAt s (lentAt two c) → (x : Side) → NoneRightAt (serverCallAt s (lentAt one c) .state) (map (lentAt x) cs)
+    next g d one = g one .1
+    next g d two = rw d (g two .1)

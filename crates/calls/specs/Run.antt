@@ -6,17 +6,18 @@ use mathlib.Core.Bool.{Bool, true, _&&_}
 use lib.ListN.{length}
 use Rattle.octets.specs.Choice.{pick}
 use Rattle.octets.specs.Lists.{over}
-use Rattle.answer.specs.Outcome.{Outcome, refused}
+use Rattle.answer.specs.Outcome.{Outcome, outcome, refused}
 use Rattle.answer.specs.Runs.{run}
 use Rattle.peer.specs.declared.Peer.{Peer}
 use Rattle.peer.specs.Calls.{newOf, stepOf, supplyOf, giveUpOf}
 use Rattle.server.specs.declared.Server.{Server}
-use Rattle.server.specs.Runs.{Call, starts, brings, resends, replyOf, outcomeOf, serverStep}
-use Rattle.server.specs.Guess.{Side, one, two, callsOf, NoneRight}
+use Rattle.server.specs.State.{initial}
+use Rattle.server.specs.Runs.{Call, starts, brings, resends, replyOf, outcomeOf}
+use Rattle.server.specs.Guess.{Side, one, two, lentTo, NotRight}
 use Rattle.state.specs.PeerOctets.{peerOctets, peerOf}
 use Rattle.state.specs.ServerOctets.{serverOctets, serverOf}
 use Rattle.calls.specs.Done.{wordOf, Done}
-use Rattle.calls.specs.Ends.{isSixteen, peerNewAt, peerStepAt, peerSupplyAt, peerGiveUpAt, serverStartAt, serverPacketAt, serverResendAt}
+use Rattle.calls.specs.Ends.{isServer, isSixteen, peerNewAt, peerStepAt, peerSupplyAt, peerGiveUpAt, serverNewAt, serverStartAt, serverPacketAt, serverResendAt}
 
 -- what a call shows: its word, the whole reply buffer, and the state that its octets stand for
 pub record Shown (S : Type 0) : Type 0 where
@@ -68,29 +69,51 @@ peerCall p givesUp = giveUpOf p
 abbrev pub PeerCarried : Type 0
 PeerCarried = Carried peerOf peerOctets peerCallAt peerCall peerReply
 
--- ---- the server
-abbrev pub serverCallAt : List ℕ → Call (List ℕ) → Done
-serverCallAt s (starts id challenge name retries reply) = serverStartAt s (id .0) challenge name retries reply
-serverCallAt s (brings packet table fresh reply) = serverPacketAt s packet table fresh reply
-serverCallAt s (resends reply) = serverResendAt s reply
+-- ---- the server: a call on a state, or a new server in its place
+pub data ServerCall (T : Type 0) : Type 0 where
+  renews : ServerCall T
+  calls : (c : Call T) → ServerCall T
+
+abbrev pub serverReply : {T : Type 0} → ServerCall T → List ℕ
+serverReply renews = []
+serverReply (calls c) = replyOf c
+
+abbrev pub serverCallAt : List ℕ → ServerCall (List ℕ) → Done
+serverCallAt s renews = serverNewAt s
+serverCallAt s (calls (starts id challenge name retries reply)) = serverStartAt s (id .0) challenge name retries reply
+serverCallAt s (calls (brings packet table fresh reply)) = serverPacketAt s packet table fresh reply
+serverCallAt s (calls (resends reply)) = serverResendAt s reply
 
 abbrev pub areSixteen : {T : Type 0} → Call T → Bool
 areSixteen (starts id challenge name retries reply) = isSixteen challenge
 areSixteen (brings packet table fresh reply) = isSixteen fresh
 areSixteen (resends reply) = true
 
-abbrev pub serverCall : Server → Call (List ℕ) → Outcome Server
-serverCall s c = pick (areSixteen c) (outcomeOf s c) (refused 23 s)
+abbrev pub serverCall : Server → ServerCall (List ℕ) → Outcome Server
+serverCall s renews = outcome 0 [] initial
+serverCall s (calls c) = pick (areSixteen c) (outcomeOf s c) (refused 23 s)
 
 abbrev pub ServerCarried : Type 0
-ServerCarried = Carried serverOf serverOctets serverCallAt serverCall replyOf
+ServerCarried = Carried serverOf serverOctets serverCallAt serverCall serverReply
 
-abbrev pub AllSixteen : List (Call (Side → List ℕ)) → Type 0
-AllSixteen [] = Unit {0}
-AllSixteen (c ∷ cs) = (areSixteen c ≡ true) × AllSixteen cs
+-- ---- the wrong-guess rule at the boundary
+abbrev pub lentAt : Side → ServerCall (Side → List ℕ) → ServerCall (List ℕ)
+lentAt x renews = renews
+lentAt x (calls c) = calls (lentTo x c)
 
--- THE WRONG-GUESS RULE AT THE BOUNDARY: every word, every octet of the reply buffers and of the states is the same
+-- a call whose sizes are right, on the server that the octets stand for: its table is well formed, and no judged Response is right. A call that is
+-- refused for a size judges nothing, and nothing is asked of it
+abbrev pub NotRightAt : List ℕ → ServerCall (List ℕ) → Type 0
+NotRightAt s renews = Unit {0}
+NotRightAt s (calls c) = (isServer s && areSixteen c) ≡ true → NotRight (serverOf s) c
+
+abbrev pub NoneRightAt : List ℕ → List (ServerCall (List ℕ)) → Type 0
+NoneRightAt s [] = Unit {0}
+NoneRightAt s (c ∷ cs) = NotRightAt s c × NoneRightAt (serverCallAt s c .state) cs
+
+-- THE WRONG-GUESS RULE AT THE BOUNDARY: any octets for a state, of any size, and any list of calls, with slices of any size. Every word, every octet of
+-- the reply buffers and of the states is the same
 abbrev pub WrongGuessAt : Type 0
 WrongGuessAt =
-    (s : List ℕ) (cs : List (Call (Side → List ℕ))) → length s ≡ serverOctets → AllSixteen cs → ((x : Side) → NoneRight serverStep (serverOf s) (callsOf x cs))
-    → runAt serverCallAt s (callsOf one cs) ≡ runAt serverCallAt s (callsOf two cs)
+    (s : List ℕ) (cs : List (ServerCall (Side → List ℕ))) → ((x : Side) → NoneRightAt s (map (lentAt x) cs))
+    → runAt serverCallAt s (map (lentAt one) cs) ≡ runAt serverCallAt s (map (lentAt two) cs)

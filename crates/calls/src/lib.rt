@@ -6,6 +6,7 @@ ghost use Prim.Native.Nat.{_<_, _≤_};
 ghost use lib.ListN.{length};
 ghost use Rattle.octets.specs.Lists.{cells};
 ghost use Rattle.answer.specs.Answer.{numberOf};
+ghost use Rattle.packet.specs.Frame.{frameOf, toldFrame};
 ghost use Rattle.packet.specs.Reader.{toldReading, readPacket};
 ghost use Rattle.accounts.specs.Accounts.{checkNumber};
 ghost use Rattle.des.specs.Des.{enciphered};
@@ -16,10 +17,11 @@ ghost use Rattle.state.specs.PeerOctets.{peerOctets, peerOf, octetsOfPeer};
 ghost use Rattle.state.specs.ServerOctets.{serverOctets, serverOf, octetsOfServer};
 ghost use Rattle.calls.specs.Done.{wordOf, done, made, ended, given, givenBy, Encoded};
 ghost use Rattle.calls.specs.Ends.{begun, peerNewAt, peerStepAt, peerSupplyAt, peerGiveUpAt, serverNewAt, serverStartAt, serverPacketAt, serverResendAt};
-ghost use Rattle.calls.specs.Stateless.{unitAt, unitsOf, readAt, md4At, sha1At, passwordHashAt, desAt, ntResponseAt, authenticatorAt};
+ghost use Rattle.calls.specs.Stateless.{unitAt, unitsOf, endless, readAt, md4At, sha1At, passwordHashAt, desAt, ntResponseAt, authenticatorAt};
 use answer::Answer;
 use answer::Identifier;
 use packet::End;
+use packet::Framed;
 use packet::Reading;
 use peer::Peer;
 use peer::PeerStep;
@@ -175,13 +177,13 @@ fn keep_server(step: ServerStep, state: &mut [u8]) -> u64
     ensures { λ r. ⌜ Encoded (numberOf (step .answer)) (step .n) (octetsOfServer (step .server)) (now (state .entry)) r (now (state .exit)) ⌝ }
 {
     let a = step.answer;
-    let k = answer::number(a);
-    if k < 10 {
+    let number = answer::number(a);
+    if number < 10 {
         let s = step.server;
         state::encode_server(s, state);
-        return word(k, step.n);
+        return word(number, step.n);
     }
-    word(k, step.n)
+    word(number, step.n)
 }
 
 pub fn server_new(state: &mut [u8]) -> u64
@@ -304,7 +306,23 @@ fn read_as(end: End, packet: &[u8]) -> u64
     read_word(x)
 }
 
-// Whether a packet can be read by an end: 0 is the peer, 1 the server.
+fn frame_word(x: Framed) -> u64
+    ensures { λ r. ⌜ r ≡ wordOf (endless (toldFrame x)) 0 ⌝ }
+{
+    match x {
+        Framed::Refused(why) => word(answer::number(Answer::Refused(why)), 0),
+        Framed::Of(l) => word(23, 0),
+    }
+}
+
+fn read_endless(packet: &[u8]) -> u64
+    ensures { λ r. ⌜ r ≡ wordOf (endless (frameOf (now (packet .entry)))) 0 ⌝ }
+{
+    let x = packet::frame(packet);
+    frame_word(x)
+}
+
+// Whether a packet can be read by an end: 0 is the peer, 1 the server. For another end 10 to 12 come before 23.
 pub fn read(end: u8, packet: &[u8]) -> u64
     ensures { λ r. ⌜ r ≡ readAt end (now (packet .entry)) ⌝ }
 {
@@ -314,7 +332,7 @@ pub fn read(end: u8, packet: &[u8]) -> u64
     if end == 1 {
         return read_as(End::Server, packet);
     }
-    23
+    read_endless(packet)
 }
 
 pub fn accounts_check(table: &[u8]) -> u64

@@ -3,6 +3,7 @@ ghost use mathlib.Core.Path.{_≡_};
 ghost use Prim.Native.Nat.{_*_, _≤_};
 ghost use lib.ListN.{length};
 ghost use Rattle.octets.specs.Lists.{cells, Appended};
+ghost use Rattle.console.specs.Reads.{Leaves};
 ghost use Rattle.console.specs.Shown.{spacedAt, escaped, shownAs, visible, Fronts};
 use libc::STDOUT_FILENO;
 
@@ -15,7 +16,9 @@ pub enum File {
 
 // ---- reading
 
-fn read_open(fd: i32, buffer: &mut [u8]) -> File {
+fn read_open(fd: i32, buffer: &mut [u8]) -> File
+    ensures { λ r. ⌜ Leaves r (now (buffer .entry)) (now (buffer .exit)) ⌝ }
+{
     let got = libc::read(fd, buffer);
     if got < 0 {
         return File::Unread;
@@ -26,7 +29,9 @@ fn read_open(fd: i32, buffer: &mut [u8]) -> File {
 }
 
 // The file at a path, or as much of it as the buffer takes.
-pub fn read(path: &[u8], buffer: &mut [u8]) -> File {
+pub fn read(path: &[u8], buffer: &mut [u8]) -> File
+    ensures { λ r. ⌜ (now (path .exit) ≡ now (path .entry)) × Leaves r (now (buffer .entry)) (now (buffer .exit)) ⌝ }
+{
     let fd = os::open_read(path);
     if fd < 0 {
         return File::Unopened;
@@ -39,17 +44,23 @@ pub fn read(path: &[u8], buffer: &mut [u8]) -> File {
 // ---- words and numbers
 
 // Words as they are.
-pub fn say(text: &[u8]) {
+pub fn say(text: &[u8])
+    ensures { λ _. ⌜ now (text .exit) ≡ now (text .entry) ⌝ }
+{
     io::write_all(STDOUT_FILENO, text);
 }
 
 // A number in decimal.
-pub fn number(n: u64) {
+pub fn number(n: u64)
+    ensures { λ r. ⌜ r ≡ tt ⌝ }
+{
     io::print_decimal(STDOUT_FILENO, n);
 }
 
 // The meaning of an account's code, or of a Failure Request's: RFC 2759, section 6.
-pub fn code(code: u64) {
+pub fn code(code: u64)
+    ensures { λ r. ⌜ r ≡ tt ⌝ }
+{
     match code {
         0 => say(b"may log in"),
         646 => say(b"restricted logon hours"),
@@ -62,7 +73,9 @@ pub fn code(code: u64) {
 }
 
 // Octets in hex digits, with nothing between them.
-pub fn hex(s: &[u8]) {
+pub fn hex(s: &[u8])
+    ensures { λ _. ⌜ now (s .exit) ≡ now (s .entry) ⌝ }
+{
     let mut at = 0;
     while at < s.len() {
         let piece = octets::part(s, at, 16);
@@ -117,7 +130,9 @@ fn line(s: &[u8]) {
 }
 
 // Octets, 16 to a line, with this at the front of each line but the first.
-pub fn lines(s: &[u8], margin: &[u8]) {
+pub fn lines(s: &[u8], margin: &[u8])
+    ensures { λ _. ⌜ (now (s .exit) ≡ now (s .entry)) × (now (margin .exit) ≡ now (margin .entry)) ⌝ }
+{
     line(s);
     let mut at = 16;
     while at < s.len() {
@@ -188,7 +203,9 @@ fn show_into(dst: &mut [u8], s: &[u8]) -> usize
 }
 
 // Text in quotation marks, with nothing in it that a terminal would obey.
-pub fn quoted(s: &[u8]) {
+pub fn quoted(s: &[u8])
+    ensures { λ _. ⌜ now (s .exit) ≡ now (s .entry) ⌝ }
+{
     say(b"\"");
     let mut at = 0;
     while at < s.len() {

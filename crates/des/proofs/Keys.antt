@@ -9,7 +9,7 @@ use lib.ListN.{length, getD}
 use Rattle.octets.specs.Lists.{cells}
 use Rattle.octets.proofs.Lists.{length-cells, getD-cells, cells-same}
 use Rattle.des.specs.Bits.{bitOf, bitsOf, groupAt}
-use Rattle.des.specs.Keys.{withParity, keyOctet, keyOctets, sevenOf}
+use Rattle.des.specs.Keys.{withParity, keyOctet, keyOctets, sevenOf, KeysOdd, KeysBack}
 use Rattle.des.proofs.Numbers.{length-bits, getD-bits, groups-bits, bits-groups}
 
 -- the low bit b makes the number of ones odd
@@ -33,11 +33,11 @@ pub length-key : (k : List ℕ) → length (keyOctets k) ≡ 8
 unfolding keyOctets
 length-key k = length-cells 8 (keyOctet (bitsOf 8 k))
 
-pub key-odd : (k : List ℕ) (i : ℕ) → i < 8 → ones (getD (keyOctets k) i 0) % 2 ≡ 1
+pub key-odd : KeysOdd
 unfolding keyOctets
 key-odd k i h = ap (λ (x : ℕ). ones x % 2) (getD-cells 8 (keyOctet (bitsOf 8 k)) i h) ∙ parity-odd (groupAt 7 (bitsOf 8 k) i)
 
-pub key-back : (k : List ℕ) → length k ≡ 7 → ((i : ℕ) → i < 7 → getD k i 0 < 256) → sevenOf (keyOctets k) ≡ k
+pub key-back : KeysBack
 unfolding keyOctets sevenOf bitOf
 key-back k e small =
     let b = bitsOf 8 k in

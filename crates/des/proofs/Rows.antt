@@ -11,7 +11,7 @@ use borrow.Author.Tests.{eqb-true, ltb-true, leb-true}
 use Rattle.octets.specs.Choice.{pick}
 use Rattle.octets.proofs.Tables.{below, first-of, second-of, at-each}
 use Rattle.des.specs.Tables.{sTable, shiftTable}
-use Rattle.des.specs.Rows.{count, rowOf, Permutation, LookedUp}
+use Rattle.des.specs.Rows.{count, rowOf, Permutation, RowsPermute, LookedUp}
 
 -- row k / 16 holds k % 16 once, and the number at k is below 16
 right : ℕ → Bool
@@ -33,7 +33,7 @@ entry-small : (k : ℕ) → k < 512 → getD sTable k 0 < 16
 unfolding right
 entry-small k h = ltb-true _ _ (second-of (eqb (count (k % 16) (rowOf (k / 16))) 1) _ (at-each 512 right all-right k h))
 
-pub rows : (r : ℕ) → r < 32 → Permutation (rowOf r)
+pub rows : RowsPermute
 unfolding rowOf sTable
 rows r h = record { long = length-take-le 16 (drop (16 * r) sTable) (omega (arith, length-drop (16 * r) sTable)); each = λ v l. each-once r v h l }
 

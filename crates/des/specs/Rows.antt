@@ -22,6 +22,9 @@ pub record Permutation (row : List ℕ) : Type 0 where
   pub long : length row ≡ 16
   pub each : (v : ℕ) → v < 16 → count v row ≡ 1
 
+abbrev pub RowsPermute : Type 0
+RowsPermute = (r : ℕ) → r < 32 → Permutation (rowOf r)
+
 -- v was looked up at a place of the table: it is below 16, and no other number of its row is the same
 pub record LookedUp (place v : ℕ) : Type 0 where
   pub is : v ≡ getD sTable place 0

@@ -8,7 +8,7 @@ use password::Spelling;
 use talk::Login;
 
 // What is wrong with an argument, and a hint.
-pub fn complain(what: &[u8]) {
+pub(crate) fn complain(what: &[u8]) {
     console::say(b"login: ");
     console::say(what);
     console::say(b"; `login help` says how to call it\n");
@@ -187,7 +187,7 @@ fn with_path(path: &[u8], count: usize) {
     }
 }
 
-pub fn play(count: usize) {
+pub(crate) fn play(count: usize) {
     let mut path = io::buffer();
     let n = os::arg(1, &mut path);
     if os::errno() != 0 {

@@ -131,12 +131,12 @@ fn read_for(end: End, p: &[u8]) {
     }
 }
 
-pub fn to_peer(p: &[u8]) {
+pub(crate) fn to_peer(p: &[u8]) {
     console::say(b"\n  server -> peer    ");
     read_for(End::Peer, p);
 }
 
-pub fn to_server(p: &[u8]) {
+pub(crate) fn to_server(p: &[u8]) {
     console::say(b"\n  peer -> server    ");
     read_for(End::Server, p);
 }

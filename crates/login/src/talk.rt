@@ -206,7 +206,7 @@ fn over(ends: Ends) {
 }
 
 // Twenty turns are more than any login takes.
-pub fn play(table: &[u8], name: &[u8], login: Login) {
+pub(crate) fn play(table: &[u8], name: &[u8], login: Login) {
     let mut packet = [0u8; 1020];
     let mut ends = begin(name, login, &mut packet);
     let mut turn: u8 = 0;

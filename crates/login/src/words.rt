@@ -11,13 +11,13 @@ fn meaning(a: Answer) {
     }
 }
 
-pub fn answer(a: Answer) {
+pub(crate) fn answer(a: Answer) {
     console::say(b"answer ");
     console::number(answer::number(a) as u64);
     meaning(a);
 }
 
-pub fn peer_stage(stage: peer::Stage) {
+pub(crate) fn peer_stage(stage: peer::Stage) {
     match stage {
         peer::Stage::Begin => console::say(b"BEGIN"),
         peer::Stage::ChallengeResponseSent => console::say(b"CHALLENGE_RESPONSE_SENT"),
@@ -29,7 +29,7 @@ pub fn peer_stage(stage: peer::Stage) {
     }
 }
 
-pub fn server_stage(stage: server::Stage) {
+pub(crate) fn server_stage(stage: server::Stage) {
     match stage {
         server::Stage::Begin => console::say(b"BEGIN"),
         server::Stage::ChallengeSent => console::say(b"CHALLENGE_SENT"),

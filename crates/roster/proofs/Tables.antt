@@ -9,7 +9,6 @@ use lib.ListN.{length, take, length-append}
 use lib.Seq.{drop-at, drop-append-add, take-append-seam}
 use borrow.Author.Tests.{ltb-false, not-false, eq-eqb}
 use Rattle.octets.specs.Choice.{pick}
-use Rattle.octets.specs.Lists.{part}
 use Rattle.octets.specs.Octets.{same, numberAt}
 use Rattle.octets.proofs.Exits.{pick-true, arms, picked}
 use Rattle.octets.proofs.Lists.{length-cells}
@@ -25,6 +24,7 @@ use Rattle.password.proofs.Hashes.{length-hashed}
 use Rattle.roster.specs.Account.{accountHead, accountRecord, recordFor}
 use Rattle.roster.specs.Lines.{before, after, trimmed, hexSecret, spelt, secretOf, entryWith, entryOf}
 use Rattle.roster.specs.Made.{linesOf, addedTo, addedBy, recordIn, AfterLine, addedLine, Result, madeFrom, madeOf}
+use Rattle.roster.specs.Promises.{MadeFormed, AddedFound, AddedHash}
 use Rattle.roster.specs.declared.Secret.{Secret}
 use Rattle.roster.specs.declared.Entry.{Entry}
 use Rattle.roster.proofs.Laws.{length-account}
@@ -122,16 +122,13 @@ from-formed room k t (l ∷ ls) h w =
     let v : wellFormed (addedLine room t (trimmed l) .table) ≡ true = line-formed room t (trimmed l) h w in
     arms (λ (x : Result). wellFormed (x .last .table) ≡ true) _ v (from-formed room (suc k) _ ls h v)
 
--- whatever the text, the table that is made of it is well formed
-pub made-formed : (room : ℕ) (text : List ℕ) → wellFormed (madeOf room text .last .table) ≡ true
+pub made-formed : MadeFormed
 unfolding madeOf
 made-formed room text =
     picked (λ (x : Result). wellFormed (x .last .table) ≡ true) _ (λ _. empty-formed) (λ e. from-formed room 0 [] (linesOf text) (ltb-false _ _ e) empty-formed)
 
--- ---- what is found in a table with an account more: what was found before it, or else this account under its name
-pub added-found : (t : List ℕ) (code : ℕ) (hash name user : List ℕ) → wellFormed t ≡ true → length hash ≡ 16 → length name ≤ 256 → isCode code ≡ true
-    → lookupOf user (accountOf (t ++ accountRecord code hash name) user)
-    ≡ pick (isAccountOf user (recordOf t user)) (lookupOf user (accountOf t user)) (pick (same name user) (account code (length t + 6)) absent)
+-- ---- a table with an account more
+pub added-found : AddedFound
 unfolding lookupOf isAccountOf numberAt pick
 added-found t code hash name user w eh en ec =
     ap (lookupOf user) (joined-searched t q user w ∙ ap (λ (e : Placed). pick (isAccountOf user (recordOf t user)) (accountOf t user) (further (length t) e)) (account-found code hash name eh en ec user))
@@ -147,8 +144,7 @@ added-found t code hash name user w eh en ec =
     go false true e = pick-true _ _ _ (is-account code hash name eh en ec user ∙ e) ∙ rw (code-is code hash name eh en ec, add-zero (length t))
     go false false e = refl
 
--- and its hash stands there
-pub added-hash : (t : List ℕ) (code : ℕ) (hash name : List ℕ) → length hash ≡ 16 → part (t ++ accountRecord code hash name) (length t + 6) 16 ≡ hash
+pub added-hash : AddedHash
 unfolding accountRecord
 added-hash t code hash name e =
     ap (take 16) (drop-append-add t (accountRecord code hash name) 6)

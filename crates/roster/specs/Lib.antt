@@ -1,3 +1,4 @@
 pub mod Account
 pub mod Lines
 pub mod Made
+pub mod Promises

@@ -16,6 +16,7 @@ use Rattle.server.specs.declared.Stage.{Stage as ServerStage}
 use Rattle.server.specs.declared.Stage.the-variants as server
 use Rattle.server.specs.declared.Server.{Server}
 use Rattle.state.specs.PeerOctets.{peerFields, peerOctets, peerStageOf, peerStageNumber, peerOf, octetsOfPeer}
+use Rattle.state.specs.Promises.{AnyOctetsStand, PeerBack, ServerBack}
 use Rattle.state.specs.ServerOctets.{serverFields, serverOctets, serverStageOf, serverStageNumber, serverOf, octetsOfServer, IsServer}
 
 peer-stage : (s : PeerStage) → peerStageOf (peerStageNumber s) ≡ s
@@ -62,7 +63,7 @@ pub length-octets-of-peer : (p : Peer) → IsPeer p → length (octetsOfPeer p) 
 unfolding octetsOfPeer flatten
 length-octets-of-peer p z = simp length-append (omega arith)
 
-pub peer-back : (p : Peer) → IsPeer p → peerOf (octetsOfPeer p) ≡ p
+pub peer-back : PeerBack
 unfolding peerOf octetsOfPeer numberAt flatten
 peer-back p z =
     let start : From (octetsOfPeer p) 0 (peerFields p) = record { on = refl } in
@@ -97,7 +98,7 @@ pub length-octets-of-server : (s : Server) → IsServer s → length (octetsOfSe
 unfolding octetsOfServer flatten
 length-octets-of-server s z = simp length-append (omega arith)
 
-pub server-back : (s : Server) → IsServer s → serverOf (octetsOfServer s) ≡ s
+pub server-back : ServerBack
 unfolding serverOf octetsOfServer numberAt flatten
 server-back s z =
     let start : From (octetsOfServer s) 0 (serverFields s) = record { on = refl } in
@@ -109,3 +110,6 @@ server-back s z =
 pub is-server : (s : List ℕ) → IsServer (serverOf s)
 unfolding serverOf
 is-server s = search length-sized
+
+pub any-octets-stand : AnyOctetsStand
+any-octets-stand s = (is-peer s, is-server s)

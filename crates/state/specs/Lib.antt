@@ -1,3 +1,4 @@
 pub mod Stored
 pub mod PeerOctets
 pub mod ServerOctets
+pub mod Promises

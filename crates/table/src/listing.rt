@@ -63,7 +63,7 @@ fn count(n: usize) {
 }
 
 // The accounts of a well-formed table.
-pub fn rows(table: &[u8], hashes: bool) {
+pub(crate) fn rows(table: &[u8], hashes: bool) {
     let mut n = 0;
     let mut at = 0;
     while at < table.len() {
@@ -89,7 +89,7 @@ fn check(table: &[u8], hashes: bool) {
 }
 
 // One octet more than a table has at most, so that a longer file is seen to be longer.
-pub fn list(path: &[u8], hashes: bool) {
+pub(crate) fn list(path: &[u8], hashes: bool) {
     let mut table = [0u8; 65537];
     let file = console::read(path, &mut table);
     match file {

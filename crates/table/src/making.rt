@@ -81,7 +81,7 @@ fn read(text: &[u8], path: &[u8], hashes: bool) {
     convert(text, path, hashes);
 }
 
-pub fn make(lines: &[u8], path: &[u8], hashes: bool) {
+pub(crate) fn make(lines: &[u8], path: &[u8], hashes: bool) {
     let mut text = [0u8; 262144];
     let file = console::read(lines, &mut text);
     match file {

@@ -2,7 +2,7 @@
 use super::script;
 use answer::Answer;
 
-pub fn des(line: &[u8]) {
+pub(crate) fn des(line: &[u8]) {
     let mut key = [0u8; 8];
     script::field(line, 1, &mut key);
     let mut block = [0u8; 8];
@@ -11,7 +11,7 @@ pub fn des(line: &[u8]) {
     script::tell(b"des", Answer::Written, &out);
 }
 
-pub fn parity(line: &[u8]) {
+pub(crate) fn parity(line: &[u8]) {
     let mut key = [0u8; 7];
     script::field(line, 1, &mut key);
     let out = des::key_octets(key);

@@ -1,7 +1,7 @@
 // md4 MESSAGE, sha1 MESSAGE
 use super::script;
 
-pub fn md4(line: &[u8]) {
+pub(crate) fn md4(line: &[u8]) {
     let mut space = [0u8; 65600];
     let n = script::field(line, 1, &mut space);
     let d = digest::md4(&space[0..n]);
@@ -10,7 +10,7 @@ pub fn md4(line: &[u8]) {
     script::tell(b"md4", answer, &octets);
 }
 
-pub fn sha1(line: &[u8]) {
+pub(crate) fn sha1(line: &[u8]) {
     let mut space = [0u8; 65600];
     let n = script::field(line, 1, &mut space);
     let d = digest::sha1(&space[0..n]);

@@ -43,21 +43,21 @@ fn after_server(name: &[u8], done: ServerStep, reply: &[u8], ends: Ends) -> Ends
     Ends { peer, server }
 }
 
-pub fn fresh() -> Ends {
+pub(crate) fn fresh() -> Ends {
     let made = Peer::new(b"", [0u8; 16]);
     let peer = made.peer;
     let server = Server::new();
     Ends { peer, server }
 }
 
-pub fn make_peer(line: &[u8], ends: Ends) -> Ends {
+pub(crate) fn make_peer(line: &[u8], ends: Ends) -> Ends {
     let mut name = [0u8; 300];
     let n = script::field(line, 1, &mut name);
     let done = Peer::new(&name[0..n], sixteen(line, 2));
     after_peer(b"peer", done, b"", ends)
 }
 
-pub fn step(line: &[u8], ends: Ends) -> Ends {
+pub(crate) fn step(line: &[u8], ends: Ends) -> Ends {
     let mut packet = [0u8; 1100];
     let n = script::field(line, 1, &mut packet);
     let mut reply = [0u8; 400];
@@ -66,7 +66,7 @@ pub fn step(line: &[u8], ends: Ends) -> Ends {
     after_peer(b"step", done, &reply, ends)
 }
 
-pub fn supply(line: &[u8], ends: Ends) -> Ends {
+pub(crate) fn supply(line: &[u8], ends: Ends) -> Ends {
     let mut name = [0u8; 300];
     let n = script::field(line, 1, &mut name);
     let mut reply = [0u8; 400];
@@ -75,19 +75,19 @@ pub fn supply(line: &[u8], ends: Ends) -> Ends {
     after_peer(b"supply", done, &reply, ends)
 }
 
-pub fn give_up(ends: Ends) -> Ends {
+pub(crate) fn give_up(ends: Ends) -> Ends {
     let peer = ends.peer;
     let done = peer.give_up();
     after_peer(b"give_up", done, b"", ends)
 }
 
-pub fn make_server(ends: Ends) -> Ends {
+pub(crate) fn make_server(ends: Ends) -> Ends {
     let peer = ends.peer;
     let server = Server::new();
     Ends { peer, server }
 }
 
-pub fn start(line: &[u8], ends: Ends) -> Ends {
+pub(crate) fn start(line: &[u8], ends: Ends) -> Ends {
     let mut name = [0u8; 300];
     let n = script::field(line, 3, &mut name);
     let mut reply = [0u8; 400];
@@ -98,7 +98,7 @@ pub fn start(line: &[u8], ends: Ends) -> Ends {
     after_server(b"start", done, &reply, ends)
 }
 
-pub fn packet(line: &[u8], ends: Ends) -> Ends {
+pub(crate) fn packet(line: &[u8], ends: Ends) -> Ends {
     let mut packet = [0u8; 1100];
     let n = script::field(line, 1, &mut packet);
     let mut table = [0u8; 4096];
@@ -109,7 +109,7 @@ pub fn packet(line: &[u8], ends: Ends) -> Ends {
     after_server(b"packet", done, &reply, ends)
 }
 
-pub fn resend(ends: Ends) -> Ends {
+pub(crate) fn resend(ends: Ends) -> Ends {
     let mut reply = [0u8; 400];
     let server = ends.server;
     let done = server.resend(&mut reply);

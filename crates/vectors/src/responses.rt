@@ -25,7 +25,7 @@ fn units_of(s: &[u8], units: &mut [u16]) -> usize
     n
 }
 
-pub fn password_hash(line: &[u8]) {
+pub(crate) fn password_hash(line: &[u8]) {
     let mut space = [0u8; 1024];
     let n = script::field(line, 1, &mut space);
     let mut units = [0u16; 512];
@@ -36,7 +36,7 @@ pub fn password_hash(line: &[u8]) {
     script::tell(b"password_hash", answer, &octets);
 }
 
-pub fn user(line: &[u8]) {
+pub(crate) fn user(line: &[u8]) {
     let mut name = [0u8; 300];
     let n = script::field(line, 1, &mut name);
     let u = mschap::user_of(&name[0..n]);
@@ -46,7 +46,7 @@ pub fn user(line: &[u8]) {
     script::tell(b"user", answer, octets::part(&name, start, len));
 }
 
-pub fn challenge_hash(line: &[u8]) {
+pub(crate) fn challenge_hash(line: &[u8]) {
     let mut user = [0u8; 300];
     let n = script::field(line, 3, &mut user);
     let h = mschap::challenge_hash(sixteen(line, 1), sixteen(line, 2), &user[0..n]);
@@ -55,7 +55,7 @@ pub fn challenge_hash(line: &[u8]) {
     script::tell(b"challenge_hash", answer, &octets);
 }
 
-pub fn nt_response(line: &[u8]) {
+pub(crate) fn nt_response(line: &[u8]) {
     let mut user = [0u8; 300];
     let n = script::field(line, 3, &mut user);
     let r = mschap::nt_response(
@@ -69,7 +69,7 @@ pub fn nt_response(line: &[u8]) {
     script::tell(b"nt_response", answer, &octets);
 }
 
-pub fn authenticator(line: &[u8]) {
+pub(crate) fn authenticator(line: &[u8]) {
     let mut response = [0u8; 24];
     script::field(line, 2, &mut response);
     let mut user = [0u8; 300];

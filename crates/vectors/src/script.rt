@@ -6,7 +6,7 @@ use answer::Answer;
 use libc::STDOUT_FILENO;
 
 // The place of x in s from `at`, or the end of s.
-pub fn find(s: &[u8], at: usize, x: u8) -> usize
+pub(crate) fn find(s: &[u8], at: usize, x: u8) -> usize
     requires { ⌜ at ≤ length (now s) ⌝ }
     ensures { λ r. ⌜ (at ≤ r) × (r ≤ length (now (s .entry))) ⌝ }
 {
@@ -21,7 +21,7 @@ pub fn find(s: &[u8], at: usize, x: u8) -> usize
 }
 
 // The place after the next x in s from `at`, or the end of s.
-pub fn after(s: &[u8], at: usize, x: u8) -> usize
+pub(crate) fn after(s: &[u8], at: usize, x: u8) -> usize
     requires { ⌜ at ≤ length (now s) ⌝ }
     ensures { λ r. ⌜ r ≤ length (now (s .entry)) ⌝ }
 {
@@ -46,7 +46,7 @@ fn field_start(line: &[u8], k: usize) -> usize
 }
 
 // The smaller of two.
-pub fn least(a: usize, b: usize) -> usize
+pub(crate) fn least(a: usize, b: usize) -> usize
     ensures { λ r. ⌜ (r ≤ a) × (r ≤ b) ⌝ }
 {
     if a < b {
@@ -115,7 +115,7 @@ fn pieces(text: &[u8], dst: &mut [u8]) -> usize
 }
 
 // Field k of a line as octets at the front of dst; how many.
-pub fn field(line: &[u8], k: usize, dst: &mut [u8]) -> usize
+pub(crate) fn field(line: &[u8], k: usize, dst: &mut [u8]) -> usize
     ensures { λ r. ⌜ r ≤ length (now (dst .exit)) ⌝ }
 {
     let start = field_start(line, k);
@@ -124,13 +124,13 @@ pub fn field(line: &[u8], k: usize, dst: &mut [u8]) -> usize
 }
 
 // Whether a line's name is this one.
-pub fn named(line: &[u8], name: &[u8]) -> bool {
+pub(crate) fn named(line: &[u8], name: &[u8]) -> bool {
     let end = find(line, 0, b' ');
     octets::equal(&line[0..end], name)
 }
 
 // Writes a line: the case's name, the answer's number, and octets in hex, or a minus sign for none.
-pub fn tell(name: &[u8], answer: Answer, value: &[u8]) {
+pub(crate) fn tell(name: &[u8], answer: Answer, value: &[u8]) {
     let mut text = [0u8; 2048];
     let n = least(value.len(), 1024);
     octets::to_hex(&mut text, value);

@@ -4,7 +4,7 @@ use accounts::Found;
 use answer::Answer;
 use answer::Refusal;
 
-pub fn check(line: &[u8]) {
+pub(crate) fn check(line: &[u8]) {
     let mut table = [0u8; 65600];
     let n = script::field(line, 1, &mut table);
     let answer = accounts::check(&table[0..n]);
@@ -19,7 +19,7 @@ fn tell_account(code: u16, hash: &[u8]) {
     script::tell(b"find", Answer::Written, &out);
 }
 
-pub fn find(line: &[u8]) {
+pub(crate) fn find(line: &[u8]) {
     let mut table = [0u8; 65600];
     let n = script::field(line, 1, &mut table);
     let mut user = [0u8; 300];

@@ -12,4 +12,5 @@ read-spec =
     (λ c. search exits)
     (λ c κs. search exits)
     (λ c. search exits)
+    (λ c κs. search exits)
     (λ c. search exits))
