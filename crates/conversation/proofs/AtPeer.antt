@@ -33,7 +33,8 @@ use Rattle.peer.specs.State.{ownName, lastId, responseTo, rightDigits, initial,
 use Rattle.peer.specs.Calls.{renewedIn, stepOf}
 use Rattle.peer.proofs.Replies.{length-response-to}
 use Rattle.server.specs.State.{chapOf}
-use Rattle.peerlaws.proofs.Forward.{responseIn, responds-so, any-tail-taken, succeeds-so, waits-so, fails-so, ends-so}
+use Rattle.peerlaws.specs.Exact.{responseIn}
+use Rattle.peerlaws.proofs.Forward.{responds-so, any-tail-taken, succeeds-so, waits-so, fails-so, ends-so}
 
 -- ---- a Challenge, at a made peer
 module _ (id : Identifier) (challenge server random name hash padding : List ℕ) (room : ℕ) (sixteen : length challenge ≡ 16) (some : 1 ≤ length server) (few : length server ≤ maxName) (named : length name ≤ maxName) (own : length random ≡ 16) where
@@ -116,11 +117,11 @@ module _ (p : Peer) (i chapid code retry : ℕ) (c random padding : List ℕ) (r
       ap (λ (x : List ℕ). cells 16 (unhexAt (part x (18 + d) 32))) (sym (append-nil denied)) ∙ ap (λ (x : List ℕ). cells 16 (unhexAt x)) (denied-back .challenge-is []) ∙ challenge-again c e octets
 
   -- R=1
-  pub retry-awaited : retry ≡ 1 → length c ≡ 16 → p .stage ≡ ChallengeResponseSent → (i ≡ lastId p → ⊥) → stepOf p (denied ++ padding) random room ≡ outcome 1 [] (awaiting c (record { 0 = chapid }) denied p)
+  pub retry-awaited : retry ≡ 1 → length c ≡ 16 → p .stage ≡ ChallengeResponseSent → (i ≡ lastId p → ⊥) → stepOf p (denied ++ padding) random room ≡ outcome 1 [] (awaiting c denied p)
   unfolding failureOf pick
   retry-awaited b n e h =
       waits-so p (denied ++ padding) random room denying (denied-back .reads padding) e (ap failureOf b) h
-      ∙ (λ j. outcome 1 [] (awaiting ((ap (renewedIn denying) cut-denied ∙ renewed-in n) j) (record { 0 = chapid }) (cut-denied j) p))
+      ∙ (λ j. outcome 1 [] (awaiting ((ap (renewedIn denying) cut-denied ∙ renewed-in n) j) (cut-denied j) p))
 
   -- R=0
   pub failure-replied : retry ≡ 0 → p .stage ≡ ChallengeResponseSent → (i ≡ lastId p → ⊥) → 6 ≤ room

@@ -13,7 +13,7 @@ use Rattle.packet.proofs.Sizes.{length-challengePacket}
 use Rattle.peer.specs.declared.Peer.{Peer}
 use Rattle.peer.specs.declared.Stage.the-variants as peer-stage
 use Rattle.peer.specs.State as peer
-use Rattle.peer.specs.State.{ownName, lastRequest, lastId, responseTo, digitsTo, rightDigits}
+use Rattle.peer.specs.State.{ownName, lastRequest, lastId, lastChapId, responseTo, digitsTo, rightDigits}
 use Rattle.peer.specs.Calls.{stepOf}
 use Rattle.server.specs.declared.Server.{Server}
 use Rattle.server.specs.State as server
@@ -24,7 +24,7 @@ use Rattle.conversation.specs.Calls.{Login, Ends, made, started, respond
 use Rattle.conversation.specs.Login.{Fits, challengeOf, ntResponseOf, responseOf, stringOf, successOf, challenging, responding, granting, confirming, LoginSucceeds}
 use Rattle.peerlaws.proofs.Forward.{makes-so}
 use Rattle.conversation.proofs.AtPeer.{challenge-answered}
-use Rattle.conversation.proofs.Pending.{Pending, stored-id, grants-so, confirms-so, closes-so, ends-so}
+use Rattle.conversation.proofs.Pending.{Pending, stored-octet, grants-so, confirms-so, closes-so, ends-so}
 
 -- a start's arguments
 start-fits : (n retries : ℕ) → 1 ≤ n → n ≤ 256 → retries ≤ 10 → startFits n retries ≡ true
@@ -57,7 +57,7 @@ module _ (l : Login) (f : Fits l) where
 
   asked-id : lastId (responding l) ≡ l .id .0
   unfolding lastId lastRequest responding peer.responded challengeOf challengePacket chapPacket header
-  asked-id = stored-id (challengeOf l) (l .id .0) (omega (arith, length-challengePacket (l .id .0) (chapOf (l .id) .0) (l .challenge) (l .server) (f .challenge), f .server-few)) refl
+  asked-id = stored-octet 1 (challengeOf l) (l .id .0) (omega (arith, length-challengePacket (l .id .0) (chapOf (l .id) .0) (l .challenge) (l .server) (f .challenge), f .server-few)) refl
 
   right-digits : rightDigits (responding l) ≡ digitsTo (l .challenge) (l .credentials .random) (l .credentials .name) (l .credentials .hash)
   unfolding rightDigits responding peer.responded peer.initial ownName

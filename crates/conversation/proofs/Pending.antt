@@ -47,13 +47,13 @@ next-other i e = absurd (omega arith)
 pub next-new : (p : Peer) (i : Identifier) → lastId p ≡ i .0 → nextId i .0 ≡ lastId p → ⊥
 next-new p i e f = next-other i (sym (f ∙ e))
 
--- the Identifier of a stored request
-pub stored-id : (q : List ℕ) (i : ℕ) → length q ≤ 1020 → getD q 1 0 ≡ i → getD (take (length q) (sized 1020 q)) 1 0 ≡ i
-stored-id q i h e = ap (λ (x : List ℕ). getD x 1 0) (take-sized 1020 q h) ∙ e
+-- an octet of a stored request
+pub stored-octet : (n : ℕ) (q : List ℕ) (i : ℕ) → length q ≤ 1020 → getD q n 0 ≡ i → getD (take (length q) (sized 1020 q)) n 0 ≡ i
+stored-octet n q i h e = ap (λ (x : List ℕ). getD x n 0) (take-sized 1020 q h) ∙ e
 
 pub answered-id : (stage : Stage) (q w : List ℕ) (p : Peer) (i : ℕ) → length q ≤ 1020 → getD q 1 0 ≡ i → lastId (peer.answered stage q w p) ≡ i
 unfolding lastId lastRequest peer.answered
-answered-id stage q w p i h e = stored-id q i h e
+answered-id stage q w p i h e = stored-octet 1 q i h e
 
 -- ---- the right account
 module _ (l : Login) (b : Ends) (c : Credentials) (f : Fits l) (t : Pending b c) (a : RightAccount l c) where

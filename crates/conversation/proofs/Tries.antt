@@ -16,7 +16,7 @@ use Rattle.mschap.specs.Responses.{ntResponse}
 use Rattle.peer.specs.declared.Peer.{Peer}
 use Rattle.peer.specs.declared.Stage.the-variants as peer-stage
 use Rattle.peer.specs.State as peer
-use Rattle.peer.specs.State.{ownName, lastRequest, lastId, responseTo, digitsTo, rightDigits}
+use Rattle.peer.specs.State.{ownName, lastRequest, lastId, lastChapId, responseTo, digitsTo, rightDigits}
 use Rattle.peer.specs.Calls.{stepOf, responseBy, supplyOf}
 use Rattle.peer.proofs.Replies.{length-response-to}
 use Rattle.server.specs.declared.Server.{Server}
@@ -30,16 +30,20 @@ use Rattle.conversation.specs.Tries.{Denial, WrongTry, AllWrong, lastCha
 use Rattle.peerlaws.proofs.Forward.{supplies-so}
 use Rattle.conversation.proofs.AtPeer.{retry-awaited, failure-replied, failure-ended}
 use Rattle.conversation.proofs.AtServer.{code-three, account-code, response-retried, response-refused, response-barred, failure-confirmed}
-use Rattle.conversation.proofs.Pending.{Pending, next-new, stored-id, answered-id, grants-so, confirms-so, closes-so, ends-so}
+use Rattle.conversation.proofs.Pending.{Pending, next-new, stored-octet, answered-id, grants-so, confirms-so, closes-so, ends-so}
 use Rattle.conversation.proofs.Login.{first, begun-is, begun-pending}
 
--- a Failure Request's size and Identifier
+-- a Failure Request's size, Identifier and MS-CHAPv2-ID
 short : (id chapid code retry : ℕ) (c : List ℕ) → length (failureRequest id chapid code retry c []) ≤ 1020
 short id chapid code retry c = omega (arith, length-failureRequest id chapid code retry (length (decimal code)) c [] refl, few-decimal code)
 
 request-id : (id chapid code retry : ℕ) (c : List ℕ) → getD (failureRequest id chapid code retry c []) 1 0 ≡ id
 unfolding failureRequest chapPacket header
 request-id id chapid code retry c = refl
+
+request-chapid : (id chapid code retry : ℕ) (c : List ℕ) → getD (failureRequest id chapid code retry c []) 6 0 ≡ chapid
+unfolding failureRequest chapPacket header
+request-chapid id chapid code retry c = refl
 
 -- ---- one wrong try, with a retry left
 module _ (b : Ends) (c : Credentials) (t : Try) (here : Pending b c) (w : WrongTry (b .server .request .challenge) c t) (left : b .server .retries ≡ 0 → ⊥) where
@@ -62,13 +66,13 @@ module _ (b : Ends) (c : Credentials) (t : Try) (here : Pending b c) (w : WrongT
   asking = server.asked (s .stage) next fresh (s .retries - 1) request s
 
   abbrev waiting : Peer
-  waiting = peer.awaiting fresh (chapOf next) request (b .peer)
+  waiting = peer.awaiting fresh request (b .peer)
 
   abbrev response : List ℕ
   response = responseTo (next .0) (chapOf next .0) fresh (d .random) (d .name) (d .hash)
 
   abbrev answering : Peer
-  answering = peer.supplied (d .name) (d .hash) (d .random) response waiting
+  answering = peer.supplied (d .name) (d .hash) (d .random) (chapOf next) response waiting
 
   denies : denied b t ≡ outcome 0 request asking
   unfolding denied
@@ -84,18 +88,22 @@ module _ (b : Ends) (c : Credentials) (t : Try) (here : Pending b c) (w : WrongT
 
   waiting-id : lastId waiting ≡ next .0
   unfolding lastId lastRequest peer.awaiting
-  waiting-id = stored-id request (next .0) (short _ _ 691 1 fresh) (request-id _ _ 691 1 fresh)
+  waiting-id = stored-octet 1 request (next .0) (short _ _ 691 1 fresh) (request-id _ _ 691 1 fresh)
+
+  waiting-chapid : lastChapId waiting ≡ chapOf next .0
+  unfolding lastChapId lastRequest peer.awaiting
+  waiting-chapid = stored-octet 6 request (chapOf next .0) (short _ _ 691 1 fresh) (request-chapid _ _ 691 1 fresh)
 
   response-is : responseBy waiting (d .name) (d .hash) (d .random) ≡ response
   unfolding responseBy peer.awaiting
-  response-is = ap (λ (i : ℕ). responseTo i (chapOf next .0) fresh (d .random) (d .name) (d .hash)) waiting-id
+  response-is = (λ j. responseTo (waiting-id j) (waiting-chapid j) fresh (d .random) (d .name) (d .hash))
 
   supplies : supplied b t ≡ outcome 0 response answering
   unfolding supplied peer.awaiting
   supplies =
       (λ j. supplyOf (waits j .state) (d .name) (d .hash) (d .random) (t .room))
       ∙ supplies-so waiting (d .name) (d .hash) (d .random) (t .room) refl (w .credentials .name) (rw (response-is, length-response-to (next .0) (chapOf next .0) fresh (d .random) (d .name) (d .hash) (w .credentials .random)) (w .credentials .response))
-      ∙ (λ j. outcome 0 (response-is j) (peer.supplied (d .name) (d .hash) (d .random) (response-is j) waiting))
+      ∙ (λ j. outcome 0 (response-is j) (peer.supplied (d .name) (d .hash) (d .random) (record { 0 = waiting-chapid j }) (response-is j) waiting))
 
   abbrev there : Ends
   there = record { server = asking; peer = answering; response = response }
@@ -106,7 +114,7 @@ module _ (b : Ends) (c : Credentials) (t : Try) (here : Pending b c) (w : WrongT
 
   answering-id : lastId answering ≡ next .0
   unfolding lastId lastRequest peer.supplied peer.awaiting
-  answering-id = stored-id request (next .0) (short _ _ 691 1 fresh) (request-id _ _ 691 1 fresh)
+  answering-id = stored-octet 1 request (next .0) (short _ _ 691 1 fresh) (request-id _ _ 691 1 fresh)
 
   answering-digits : rightDigits answering ≡ digitsTo fresh (d .random) (d .name) (d .hash)
   unfolding rightDigits ownName peer.supplied peer.awaiting

@@ -35,8 +35,8 @@ use Rattle.peer.specs.declared.Move.{Move}
 use Rattle.peer.specs.declared.Move.the-variants.{NotTaken, WrongIdentifier, Again, Respond, Confirm, Fail, Wait, Succeed, End}
 use Rattle.peer.specs.declared.Keys.{Keys}
 use Rattle.peer.specs.declared.Peer.{Peer}
-use Rattle.peer.specs.Stored.{Named, UserIn}
-use Rattle.peer.specs.State.{replyRoom, ownName, lastRequest, lastReply, lastId, digitsTo, responseTo, supplied}
+use Rattle.peer.specs.Inner.{Named, UserIn}
+use Rattle.peer.specs.State.{replyRoom, ownName, lastRequest, lastReply, lastId, lastChapId, digitsTo, responseTo, supplied}
 use Rattle.peer.specs.Calls.{digitsIn, says, writes, confirmation, answerOf, nextOf, leftBy, keysOf, movedOf, turnIn, takenOf, responseBy, resumeOf}
 
 pub named-so : (s : List ℕ) (n : ℕ) (name : List ℕ) → name ≡ take n s → length s ≤ maxName → Named s n name
@@ -153,8 +153,8 @@ unfolding takenOf movedOf ownName lastRequest lastReply leftBy pick
 taken-so a n before after p k q random m request name last w r f t e l d c s =
     rw (← f, ← t) (does-left (λ x v. leftBy x m k q random v p) p r _ a n w before after (λ v. refl) (rw (e .is, l) at d) c s)
 
-pub resume-so : (a n : ℕ) (before after : List ℕ) (p : Peer) (name hash random last w : List ℕ) (id : ℕ) (r : Peer) → last ≡ take (p .requestlen) (p .request) → id ≡ getD last 1 0 → Does (sends (length before) (responseTo id (p .challenges .chapid .0) (p .challenges .authenticator) random name hash)) a n tt before after → w ≡ take n after → r ≡ pick (eqb a 0) (supplied name hash random w p) p
+pub resume-so : (a n : ℕ) (before after : List ℕ) (p : Peer) (name hash random last w : List ℕ) (id chapid : ℕ) (r : Peer) → last ≡ take (p .requestlen) (p .request) → id ≡ getD last 1 0 → chapid ≡ getD last 6 0 → Does (sends (length before) (responseTo id chapid (p .challenges .authenticator) random name hash)) a n tt before after → w ≡ take n after → r ≡ pick (eqb a 0) (supplied name hash random (record { 0 = chapid }) w p) p
     → Does (resumeOf p name hash random (length before)) a n r before after
-unfolding resumeOf responseBy lastId lastRequest pick
-resume-so a n before after p name hash random last w id r l i d c s =
-    does-left (λ x v. pick (eqb x 0) (supplied name hash random v p) p) p r (writes (responseBy p name hash random)) a n w before after (λ v. refl) (rw (i, l) at d) c s
+unfolding resumeOf responseBy lastId lastChapId lastRequest pick
+resume-so a n before after p name hash random last w id chapid r l i j d c s =
+    does-left (λ x v. pick (eqb x 0) (supplied name hash random (record { 0 = lastChapId p }) v p) p) p r (writes (responseBy p name hash random)) a n w before after (λ v. refl) (rw (i, j, l) at d) c (rw (j, l) at s)

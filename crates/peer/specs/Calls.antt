@@ -19,7 +19,7 @@ use Rattle.peer.specs.declared.Move.{Move}
 use Rattle.peer.specs.declared.Move.the-variants.{NotTaken, WrongIdentifier, Again, Respond, Confirm, Fail, Wait, Succeed, End}
 use Rattle.peer.specs.declared.Keys.{Keys}
 use Rattle.peer.specs.declared.Peer.{Peer}
-use Rattle.peer.specs.State.{ownName, lastRequest, lastReply, lastId, responseTo, digitsTo, initial, staged, answered, responded, awaiting, supplied}
+use Rattle.peer.specs.State.{ownName, lastRequest, lastReply, lastId, lastChapId, responseTo, digitsTo, initial, staged, answered, responded, awaiting, supplied}
 use Rattle.peer.specs.Moves.{waiting, turnOf}
 
 -- ---- made from name and hash: 0, or 23 and a FAILED peer, all else zero
@@ -78,7 +78,7 @@ nextOf End k q random w p = p
 unfoldable pub leftBy : ℕ → Move → Packet → List ℕ → List ℕ → List ℕ → Peer → Peer
 leftBy n m k q random w p =
     pick (eqb n 0) (nextOf m k q random w p)
-    (pick (eqb n 1) (awaiting (renewedIn k q) (k .chapid) q p)
+    (pick (eqb n 1) (awaiting (renewedIn k q) q p)
     (pick (eqb n 2) (staged Success p)
     (pick (eqb n 3) (staged Failed p)
     p)))
@@ -112,10 +112,11 @@ stepOf p s random room = readOf (readPacket end.Peer s) p s random room
 -- ---- the two calls of WAITING: 19, 23, 20
 -- "a Response to C follows, under the kept request's Identifier and MS-CHAPv2-ID"
 unfoldable pub responseBy : Peer → List ℕ → List ℕ → List ℕ → List ℕ
-responseBy p name hash random = responseTo (lastId p) (p .challenges .chapid .0) (p .challenges .authenticator) random name hash
+responseBy p name hash random = responseTo (lastId p) (lastChapId p) (p .challenges .authenticator) random name hash
 
 unfoldable pub resumeOf : Peer → List ℕ → List ℕ → List ℕ → ℕ → Outcome Peer
-resumeOf p name hash random room = fitting room p (outcome 0 (responseBy p name hash random) (supplied name hash random (responseBy p name hash random) p))
+resumeOf p name hash random room =
+    fitting room p (outcome 0 (responseBy p name hash random) (supplied name hash random (record { 0 = lastChapId p }) (responseBy p name hash random) p))
 
 unfoldable pub supplyOf : Peer → List ℕ → List ℕ → List ℕ → ℕ → Outcome Peer
 supplyOf p name hash random room =

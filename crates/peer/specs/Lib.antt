@@ -1,4 +1,4 @@
 pub mod State
 pub mod Moves
 pub mod Calls
-pub mod Stored
+pub mod Inner

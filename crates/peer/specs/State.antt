@@ -29,9 +29,12 @@ lastRequest p = take (p .requestlen) (p .request)
 unfoldable pub lastReply : Peer → List ℕ
 lastReply p = take (p .replylen) (p .reply)
 
--- the last answered Identifier, 0 where there is none
+-- its Identifier and its MS-CHAPv2-ID, 0 where there is none
 unfoldable pub lastId : Peer → ℕ
 lastId p = getD (lastRequest p) 1 0
+
+unfoldable pub lastChapId : Peer → ℕ
+lastChapId p = getD (lastRequest p) 6 0
 
 -- ---- the arithmetic of a state: name and hash, the authenticator's challenge and the peer's own
 -- the Response
@@ -99,10 +102,10 @@ unfoldable pub responded : List ℕ → List ℕ → ChapId → List ℕ → Lis
 responded authenticator own chapid q w p = atStage ChallengeResponseSent (p .credentials) (challengesOf authenticator own chapid) (withRequest q (withReply w p))
 
 -- "WAITING, keeping that request and C"
-unfoldable pub awaiting : List ℕ → ChapId → List ℕ → Peer → Peer
-awaiting authenticator chapid q p = atStage Waiting (p .credentials) (challengesOf authenticator (p .challenges .own) chapid) (withRequest q p)
+unfoldable pub awaiting : List ℕ → List ℕ → Peer → Peer
+awaiting authenticator q p = atStage Waiting (p .credentials) (challengesOf authenticator (p .challenges .own) (p .challenges .chapid)) (withRequest q p)
 
 -- new credentials answered C by the Response w
-unfoldable pub supplied : List ℕ → List ℕ → List ℕ → List ℕ → Peer → Peer
-supplied name hash own w p =
-    atStage ChallengeResponseSent (credentialsOf name hash) (challengesOf (p .challenges .authenticator) own (p .challenges .chapid)) (withReply w p)
+unfoldable pub supplied : List ℕ → List ℕ → List ℕ → ChapId → List ℕ → Peer → Peer
+supplied name hash own chapid w p =
+    atStage ChallengeResponseSent (credentialsOf name hash) (challengesOf (p .challenges .authenticator) own chapid) (withReply w p)

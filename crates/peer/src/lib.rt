@@ -13,7 +13,7 @@ ghost use Rattle.mschap.specs.Responses.{ntResponse};
 ghost use Rattle.packet.specs.Kinds.{isRequest};
 ghost use Rattle.packet.specs.Reader.{toldReading, challengeIn};
 ghost use Rattle.writers.specs.Writers.{sends};
-ghost use Rattle.peer.specs.Stored.{Named, UserIn};
+ghost use Rattle.peer.specs.Inner.{Named, UserIn};
 ghost use Rattle.peer.specs.State.{replyRoom, responseTo, digitsTo, credentialsOf, initial, atStage, withRequest, withReply, staged, answered, responded, awaiting, supplied};
 ghost use Rattle.peer.specs.Moves.{takes, moveOf, sent, waiting, repeats, misnumbered, turnOf};
 ghost use Rattle.peer.specs.Calls.{newOf, renewedIn, says, confirmation, answerOf, nextOf, leftBy, turnIn, takenOf, readOf, stepOf, resumeOf, supplyOf, giveUpOf};
@@ -464,11 +464,11 @@ impl Peer {
     // WAITING, keeping the Failure Request q, R=1, and its C.
     fn awaiting(self, k: Packet, q: &[u8]) -> Peer
         requires { ⌜ length (now q) ≤ maxPacket ⌝ }
-        ensures { λ r. ⌜ r ≡ awaiting (renewedIn k (now (q .entry))) (k .chapid) (now (q .entry)) self ⌝ }
+        ensures { λ r. ⌜ r ≡ awaiting (renewedIn k (now (q .entry))) (now (q .entry)) self ⌝ }
     {
         let credentials = self.credentials;
         let own = self.challenges.own;
-        let chapid = k.chapid;
+        let chapid = self.challenges.chapid;
         let challenges = Challenges {
             authenticator: packet::hex_sixteen_at(q, k.challenge.start),
             own,
@@ -489,12 +489,18 @@ impl Peer {
     }
 
     // New credentials, and the Response w.
-    fn supplied(self, name: &[u8], hash: [u8; 16], random: [u8; 16], w: &[u8]) -> Peer
+    fn supplied(
+        self,
+        name: &[u8],
+        hash: [u8; 16],
+        random: [u8; 16],
+        chapid: ChapId,
+        w: &[u8],
+    ) -> Peer
         requires { ⌜ (length (now name) ≤ maxName) × (length (now w) ≤ replyRoom) ⌝ }
-        ensures { λ r. ⌜ r ≡ supplied (now (name .entry)) hash random (now (w .entry)) self ⌝ }
+        ensures { λ r. ⌜ r ≡ supplied (now (name .entry)) hash random chapid (now (w .entry)) self ⌝ }
     {
         let authenticator = self.challenges.authenticator;
-        let chapid = self.challenges.chapid;
         let challenges = Challenges {
             authenticator,
             own: random,
@@ -617,13 +623,14 @@ impl Peer {
         name: &[u8],
         hash: [u8; 16],
         random: [u8; 16],
+        chapid: ChapId,
         w: &[u8],
     ) -> Peer
         requires { ⌜ (length (now name) ≤ maxName) × (length (now w) ≤ replyRoom) ⌝ }
-        ensures { λ r. ⌜ r ≡ pick (eqb (numberOf answer) 0) (supplied (now (name .entry)) hash random (now (w .entry)) self) self ⌝ }
+        ensures { λ r. ⌜ r ≡ pick (eqb (numberOf answer) 0) (supplied (now (name .entry)) hash random chapid (now (w .entry)) self) self ⌝ }
     {
         match answer {
-            Answer::Written => self.supplied(name, hash, random, w),
+            Answer::Written => self.supplied(name, hash, random, chapid, w),
             Answer::NeedsCredentials => self,
             Answer::Authenticated => self,
             Answer::Ended => self,
@@ -635,7 +642,6 @@ impl Peer {
         requires { ⌜ length (now name) ≤ maxName ⌝ }
         ensures { λ r. ⌜ Does (resumeOf self (now (name .entry)) hash random (length (now (reply .entry)))) (numberOf (r .answer)) (r .n) (r .peer) (now (reply .entry)) (now (reply .exit)) ⌝ }
     {
-        let chapid = self.challenges.chapid;
         let authenticator = self.challenges.authenticator;
         let keys = Keys {
             authenticator,
@@ -643,13 +649,21 @@ impl Peer {
             hash,
         };
         let last = first(&self.request, self.requestlen);
-        let id = octets::octet(last, 1);
-        let w = send_response(Identifier(id), chapid, keys, name, reply);
+        let id = Identifier(octets::octet(last, 1));
+        let chapid = ChapId(octets::octet(last, 6));
+        let w = send_response(id, chapid, keys, name, reply);
         let answer = w.answer;
         PeerStep {
             answer,
             n: w.n,
-            peer: self.resumed(answer, name, hash, random, octets::part(reply, 0, w.n)),
+            peer: self.resumed(
+                answer,
+                name,
+                hash,
+                random,
+                chapid,
+                octets::part(reply, 0, w.n),
+            ),
         }
     }
 

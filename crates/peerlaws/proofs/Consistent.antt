@@ -16,37 +16,35 @@ use Rattle.answer.specs.Outcome.{gives, Outcome, outcome, fitting}
 use Rattle.answer.specs.Runs as runs
 use Rattle.answer.specs.Sizes.{maxPacket, maxName}
 use Rattle.packet.specs.declared.End.the-variants as end
-use Rattle.packet.specs.declared.Kind.{Kind}
-use Rattle.packet.specs.declared.Kind.the-variants.{Challenge, RetryRequest}
 use Rattle.packet.specs.declared.Packet.{Packet}
 use Rattle.packet.specs.Kinds.{isRequest}
 use Rattle.packet.specs.Reader.{readPacket, challengeIn}
 use Rattle.packet.specs.Forms.{eightZeros, header, chapPacket, responsePacket, successResponse, failureResponse}
-use Rattle.packet.proofs.Readings.{Shape, tells}
 use Rattle.mschap.specs.Users.{userOf}
 use Rattle.mschap.specs.Responses.{ntResponse, authenticatorOf, digitsOf}
 use Rattle.mschap.proofs.Responses.{length-nt-response}
 use Rattle.peer.specs.declared.Stage.{Stage}
 use Rattle.peer.specs.declared.Stage.the-variants.{Begin, ChallengeResponseSent, SuccessResponseSent, FailureResponseSent, Waiting, Success, Failed}
 use Rattle.peer.specs.declared.Peer.{Peer}
-use Rattle.peer.specs.State.{ownName, lastRequest, lastReply, lastId, responseTo, digitsTo, outstanding, rightDigits, initial, staged, answered, responded, awaiting, supplied as suppliedState}
+use Rattle.peer.specs.State.{ownName, lastRequest, lastReply, lastId, lastChapId, responseTo, digitsTo, outstanding, rightDigits, initial, staged, answered, responded, awaiting, supplied as suppliedState}
 use Rattle.peer.specs.Moves.{sent, waiting}
 use Rattle.peer.specs.Calls.{newOf, stepOf, responseBy}
+use Rattle.peerlaws.specs.Exact.{Repeats, responseIn}
 use Rattle.peerlaws.specs.Runs.{Call, step, supply, giveUp, callOf, after, IsPeer, IsCall, AreCalls, Reached}
-use Rattle.peerlaws.specs.Promises.{Repeats, Request, RepeatRuleReached, rightFor, StateConsistent}
-use Rattle.peerlaws.proofs.Forward.{responseIn, id-here, cut-most}
+use Rattle.peerlaws.specs.Promises.{Request, RepeatRuleReached, rightFor, StateConsistent}
+use Rattle.peerlaws.proofs.Forward.{id-here, chap-here, cut-most}
 use Rattle.peerlaws.proofs.Views.{Moved, responds, accepts, fails, waits, succeeds, ends, Stepped, stepped, Supplied, supplied, GaveUp, gave-up}
 use Rattle.peerlaws.proofs.Views as view
 use Rattle.peerlaws.proofs.Sizes.{new-is, call-is}
 use Rattle.peerlaws.proofs.Repeats.{whole-request, Answering, moved-stores, supply-stores, repeat-again, repeat-rule}
 
--- what each stage keeps; the MS-CHAPv2-ID is octet 6 of the request
+-- what each stage keeps; a Response's MS-CHAPv2-ID is octet 6 of its request
 abbrev pub Keeps : Stage → Peer → Type 0
 Keeps Begin p = Unit {0}
 Keeps ChallengeResponseSent p = (lastReply p ≡ outstanding p) × Request (lastRequest p) × (p .challenges .chapid .0 ≡ getD (lastRequest p) 6 0)
 Keeps SuccessResponseSent p = (lastReply p ≡ successResponse (lastId p)) × Request (lastRequest p)
 Keeps FailureResponseSent p = (lastReply p ≡ failureResponse (lastId p)) × Request (lastRequest p)
-Keeps Waiting p = Request (lastRequest p) × (p .challenges .chapid .0 ≡ getD (lastRequest p) 6 0)
+Keeps Waiting p = Request (lastRequest p)
 Keeps Success p = Unit {0}
 Keeps Failed p = Unit {0}
 
@@ -69,12 +67,6 @@ answering-request n q w a = rw (a .request) (a .is)
 
 -- ---- a step
 module _ (p : Peer) (s random : List ℕ) (room : ℕ) (r : length random ≡ 16) (h : Invariant p) where
-  challenge-chapid : (k : Packet) → readPacket end.Peer s ≡ gives k → k .kind ≡ Challenge → k .chapid .0 ≡ getD (take (k .length) s) 6 0
-  challenge-chapid k e g = ap (λ (x : Packet). x .chapid .0) (subst (λ (z : Kind). Shape z (take (k .length) s) k) g (tells end.Peer s k e .shape) .reads)
-
-  retry-chapid : (k : Packet) → readPacket end.Peer s ≡ gives k → k .kind ≡ RetryRequest → k .chapid .0 ≡ getD (take (k .length) s) 6 0
-  retry-chapid k e g = ap (λ (x : Packet). x .chapid .0) (subst (λ (z : Kind). Shape z (take (k .length) s) k) g (tells end.Peer s k e .shape) .reads)
-
   moved-stays : {o : Outcome Peer} (k : Packet) → readPacket end.Peer s ≡ gives k → Moved p k (take (k .length) s) random room o → Keeps (o .state .stage) (o .state)
   unfolding responded outstanding ownName answered awaiting staged lastRequest
   moved-stays k e m = go m (moved-stores p s random room (h .is) r k e m)
@@ -86,7 +78,7 @@ module _ (p : Peer) (s random : List ℕ) (room : ℕ) (r : length random ≡ 16
       go (responds f g l) a =
           let n = responded (challengeIn k q) random (k .chapid) q (responseIn p k q random) p in
           let i = answering-id n q _ (k .id .0) (a refl) (id-here s k e) in
-          (a refl .reply ∙ ap (λ (x : ℕ). responseTo x (k .chapid .0) (challengeIn k q) random (ownName p) (p .credentials .hash)) (sym i), answering-request n q _ (a refl), challenge-chapid k e g ∙ ap (λ (l : List ℕ). getD l 6 0) (sym (a refl .request)))
+          (a refl .reply ∙ ap (λ (x : ℕ). responseTo x (k .chapid .0) (challengeIn k q) random (ownName p) (p .credentials .hash)) (sym i), answering-request n q _ (a refl), sym (chap-here s k e (ap isRequest g)) ∙ ap (λ (l : List ℕ). getD l 6 0) (sym (a refl .request)))
       go (accepts f g d l) a =
           let n = answered SuccessResponseSent q (successResponse (k .id .0)) p in
           (a refl .reply ∙ ap successResponse (sym (answering-id n q _ (k .id .0) (a refl) (id-here s k e))), answering-request n q _ (a refl))
@@ -95,7 +87,7 @@ module _ (p : Peer) (s random : List ℕ) (room : ℕ) (r : length random ≡ 16
           (a refl .reply ∙ ap failureResponse (sym (answering-id n q _ (k .id .0) (a refl) (id-here s k e))), answering-request n q _ (a refl))
       go (waits f g) a =
           let t : take (length q) (sized maxPacket q) ≡ q = take-sized maxPacket q (cut-most s k e) in
-          (rw t (whole-request s k e (ap isRequest g)), retry-chapid k e g ∙ ap (λ (l : List ℕ). getD l 6 0) (sym t))
+          rw t (whole-request s k e (ap isRequest g))
       go (succeeds f) a = tt
       go ends a = tt
 
@@ -106,12 +98,12 @@ module _ (p : Peer) (s random : List ℕ) (room : ℕ) (r : length random ≡ 16
 
 -- ---- the other calls, and any list of them
 supply-stays : (p : Peer) (name hash random : List ℕ) (room : ℕ) → length random ≡ 16 → Invariant p → {o : Outcome Peer} → Supplied p name hash random room o → Keeps (o .state .stage) (o .state)
-unfolding suppliedState responseBy outstanding ownName lastId lastRequest
+unfolding suppliedState responseBy outstanding ownName lastId lastChapId lastRequest
 supply-stays p name hash random room r h (view.refuses n a b) = h .keeps
-supply-stays p name hash random room r h (view.supplies w f l) =
+supply-stays p name hash random room r h (view.supplies-it w f l) =
     let t : Keeps Waiting p = rw w at (h .keeps) in
-    let a = supply-stores p name hash random room r (view.supplies w f l) refl (t .0) in
-    (a .reply ∙ ap (λ (x : List ℕ). responseTo (lastId p) (p .challenges .chapid .0) (p .challenges .authenticator) random x hash) (sym (take-sized maxName name f)), t .0, t .1)
+    let a = supply-stores p name hash random room r (view.supplies-it w f l) refl t in
+    (a .reply ∙ ap (λ (x : List ℕ). responseTo (lastId p) (lastChapId p) (p .challenges .authenticator) random x hash) (sym (take-sized maxName name f)), t, refl)
 
 give-up-stays : (p : Peer) → Invariant p → {o : Outcome Peer} → GaveUp p o → Keeps (o .state .stage) (o .state)
 unfolding staged
@@ -155,7 +147,7 @@ kept-request Begin p f k = clash refl f
 kept-request ChallengeResponseSent p f k = k .1
 kept-request SuccessResponseSent p f k = k .1
 kept-request FailureResponseSent p f k = k .1
-kept-request Waiting p f k = k .0
+kept-request Waiting p f k = k
 kept-request Success p f k = clash refl f
 kept-request Failed p f k = clash refl f
 

@@ -20,7 +20,7 @@ use Rattle.peer.specs.State.{lastReply, responseTo, outstanding, initial, stage
 use Rattle.peer.specs.Moves.{sent}
 use Rattle.peer.specs.Calls.{newOf}
 use Rattle.peerlaws.specs.Runs.{Call, step, supply, giveUp, callOf, after}
-use Rattle.peerlaws.specs.Promises.{Confirms, ByStep, SomeConfirms, SuccessEarned}
+use Rattle.peerlaws.specs.Promises.{Confirms, Accepts, SomeAccepts, SuccessEarned}
 use Rattle.peerlaws.proofs.Promises.{response-op, other, moved-confirms, supply-confirms, give-up-confirms}
 use Rattle.peerlaws.proofs.Views.{Moved, responds, accepts, fails, waits, succeeds, ends, Stepped, stepped, Supplied, supplied, GaveUp, gave-up}
 use Rattle.peerlaws.proofs.Views as view
@@ -40,16 +40,16 @@ apart : {A : Type 0} (stage : Stage) → told stage ≡ 0 → stage ≡ SuccessR
 apart stage z e = let y : _≡_ {A = ℕ} 0 1 = sym z ∙ ap told e in absurd (omega arith)
 
 -- ---- the stage is entered by the right string alone
-moved-enters : {p : Peer} {s random : List ℕ} {room : ℕ} {o : Outcome Peer} (k : Packet) → readPacket end.Peer s ≡ gives k → Moved p k (take (k .length) s) random room o → o .state .stage ≡ SuccessResponseSent → Confirms p s
+moved-enters : {p : Peer} {s random : List ℕ} {room : ℕ} {o : Outcome Peer} (k : Packet) → readPacket end.Peer s ≡ gives k → Moved p k (take (k .length) s) random room o → o .state .stage ≡ SuccessResponseSent → Confirms p s × (o .number ≡ 0)
 unfolding responded answered awaiting staged
 moved-enters k e (responds f g h) z = apart ChallengeResponseSent refl z
-moved-enters k e (accepts f g r h) z = record { stage = f; packet = k; reads = e; success = g; right = r }
+moved-enters k e (accepts f g r h) z = (record { stage = f; packet = k; reads = e; success = g; right = r }, refl)
 moved-enters k e (fails f g h) z = apart FailureResponseSent refl z
 moved-enters k e (waits f g) z = apart Waiting refl z
 moved-enters k e (succeeds f) z = apart Success refl z
 moved-enters k e ends z = apart Failed refl z
 
-step-enters : {p : Peer} {s random : List ℕ} {room : ℕ} {o : Outcome Peer} → Stepped p s random room o → o .state .stage ≡ SuccessResponseSent → (p .stage ≡ SuccessResponseSent) ⊎ Confirms p s
+step-enters : {p : Peer} {s random : List ℕ} {room : ℕ} {o : Outcome Peer} → Stepped p s random room o → o .state .stage ≡ SuccessResponseSent → (p .stage ≡ SuccessResponseSent) ⊎ (Confirms p s × (o .number ≡ 0))
 step-enters (view.refuses n h l) z = inl z
 step-enters (view.repeats-it r h) z = inl z
 step-enters (view.moves k e m) z = inr (moved-enters k e m z)
@@ -57,39 +57,39 @@ step-enters (view.moves k e m) z = inr (moved-enters k e m z)
 supply-enters : {p : Peer} {name hash random : List ℕ} {room : ℕ} {o : Outcome Peer} → Supplied p name hash random room o → o .state .stage ≡ SuccessResponseSent → p .stage ≡ SuccessResponseSent
 unfolding suppliedState
 supply-enters (view.refuses n h l) z = z
-supply-enters (view.supplies w f h) z = apart ChallengeResponseSent refl z
+supply-enters (view.supplies-it w f h) z = apart ChallengeResponseSent refl z
 
 give-up-enters : {p : Peer} {o : Outcome Peer} → GaveUp p o → o .state .stage ≡ SuccessResponseSent → p .stage ≡ SuccessResponseSent
 unfolding staged
 give-up-enters (view.refuses n h l) z = z
 give-up-enters (view.ends w) z = apart Failed refl z
 
-enters : (p : Peer) (c : Call) → callOf p c .state .stage ≡ SuccessResponseSent → (p .stage ≡ SuccessResponseSent) ⊎ ByStep Confirms p c
+enters : (p : Peer) (c : Call) → callOf p c .state .stage ≡ SuccessResponseSent → (p .stage ≡ SuccessResponseSent) ⊎ Accepts p c
 unfolding callOf
 enters p (step s random room) z = step-enters (stepped p s random room) z
 enters p (supply name hash random room) z = inl (supply-enters (supplied p name hash random room) z)
 enters p giveUp z = inl (give-up-enters (gave-up p) z)
 
 -- ---- lists of calls
-entered : (p : Peer) (cs : List Call) → after p cs .stage ≡ SuccessResponseSent → (p .stage ≡ SuccessResponseSent) ⊎ SomeConfirms p cs
+entered : (p : Peer) (cs : List Call) → after p cs .stage ≡ SuccessResponseSent → (p .stage ≡ SuccessResponseSent) ⊎ SomeAccepts p cs
 unfolding runs.after
 entered p [] z = inl z
 entered p (c ∷ cs) z = by (entered (callOf p c .state) cs z)
   where
-    now : (p .stage ≡ SuccessResponseSent) ⊎ ByStep Confirms p c → (p .stage ≡ SuccessResponseSent) ⊎ (ByStep Confirms p c ⊎ SomeConfirms (callOf p c .state) cs)
+    now : (p .stage ≡ SuccessResponseSent) ⊎ Accepts p c → (p .stage ≡ SuccessResponseSent) ⊎ (Accepts p c ⊎ SomeAccepts (callOf p c .state) cs)
     now (inl f) = inl f
     now (inr f) = inr (inl f)
 
-    by : (callOf p c .state .stage ≡ SuccessResponseSent) ⊎ SomeConfirms (callOf p c .state) cs → (p .stage ≡ SuccessResponseSent) ⊎ (ByStep Confirms p c ⊎ SomeConfirms (callOf p c .state) cs)
+    by : (callOf p c .state .stage ≡ SuccessResponseSent) ⊎ SomeAccepts (callOf p c .state) cs → (p .stage ≡ SuccessResponseSent) ⊎ (Accepts p c ⊎ SomeAccepts (callOf p c .state) cs)
     by (inl f) = now (enters p c f)
     by (inr f) = inr (inr f)
 
-before : (p : Peer) (cs ds : List Call) → SomeConfirms p cs → SomeConfirms p (cs ++ ds)
+before : (p : Peer) (cs ds : List Call) → SomeAccepts p cs → SomeAccepts p (cs ++ ds)
 before p [] ds f = absurd f
 before p (c ∷ cs) ds (inl f) = inl f
 before p (c ∷ cs) ds (inr f) = inr (before (callOf p c .state) cs ds f)
 
-at-last : (p : Peer) (cs : List Call) (c : Call) → ByStep Confirms (after p cs) c → SomeConfirms p (cs ++ (c ∷ []))
+at-last : (p : Peer) (cs : List Call) (c : Call) → Accepts (after p cs) c → SomeAccepts p (cs ++ (c ∷ []))
 unfolding runs.after
 at-last p [] c f = inl f
 at-last p (d ∷ cs) c f = inr (at-last (callOf p d .state) cs c f)
@@ -111,7 +111,7 @@ kept-success Waiting p id f k z = clash refl f
 kept-success Success p id f k z = clash refl f
 kept-success Failed p id f k z = clash refl f
 
-moved-sends : {p : Peer} {s random : List ℕ} {room id : ℕ} {o : Outcome Peer} (k : Packet) → readPacket end.Peer s ≡ gives k → Moved p k (take (k .length) s) random room o → (o .octets ≡ successResponse id) ⊎ (o .number ≡ 2) → (p .stage ≡ SuccessResponseSent) ⊎ Confirms p s
+moved-sends : {p : Peer} {s random : List ℕ} {room id : ℕ} {o : Outcome Peer} (k : Packet) → readPacket end.Peer s ≡ gives k → Moved p k (take (k .length) s) random room o → (o .octets ≡ successResponse id) ⊎ (o .number ≡ 2) → (p .stage ≡ SuccessResponseSent) ⊎ (Confirms p s × (o .number ≡ 0))
 moved-sends k e m (inl z) = inr (moved-confirms k e m z)
 moved-sends k e (responds f g h) (inr z) = absurd (omega arith)
 moved-sends k e (accepts f g r h) (inr z) = absurd (omega arith)
@@ -120,7 +120,7 @@ moved-sends k e (waits f g) (inr z) = absurd (omega arith)
 moved-sends k e (succeeds f) (inr z) = inl f
 moved-sends k e ends (inr z) = absurd (omega arith)
 
-step-sends : {p : Peer} {s random : List ℕ} {room id : ℕ} {o : Outcome Peer} → Invariant p → Stepped p s random room o → (o .octets ≡ successResponse id) ⊎ (o .number ≡ 2) → (p .stage ≡ SuccessResponseSent) ⊎ Confirms p s
+step-sends : {p : Peer} {s random : List ℕ} {room id : ℕ} {o : Outcome Peer} → Invariant p → Stepped p s random room o → (o .octets ≡ successResponse id) ⊎ (o .number ≡ 2) → (p .stage ≡ SuccessResponseSent) ⊎ (Confirms p s × (o .number ≡ 0))
 step-sends a (view.refuses n h l) (inl z) = other [] _ 0 refl (λ n. absurd (omega arith)) z
 step-sends a (view.refuses n h l) (inr z) = absurd (omega arith)
 step-sends {p} a (view.repeats-it r h) (inl z) = inl (kept-success (p .stage) p _ (r .stage) (a .keeps) z)
@@ -130,14 +130,14 @@ step-sends a (view.moves k e m) z = moved-sends k e m z
 supply-sends : {A : Type 0} {p : Peer} {name hash random : List ℕ} {room id : ℕ} {o : Outcome Peer} → Supplied p name hash random room o → (o .octets ≡ successResponse id) ⊎ (o .number ≡ 2) → A
 supply-sends v (inl z) = supply-confirms v z
 supply-sends (view.refuses n h l) (inr z) = absurd (omega arith)
-supply-sends (view.supplies w f h) (inr z) = absurd (omega arith)
+supply-sends (view.supplies-it w f h) (inr z) = absurd (omega arith)
 
 give-up-sends : {A : Type 0} {p : Peer} {id : ℕ} {o : Outcome Peer} → GaveUp p o → (o .octets ≡ successResponse id) ⊎ (o .number ≡ 2) → A
 give-up-sends v (inl z) = give-up-confirms v z
 give-up-sends (view.refuses n h l) (inr z) = absurd (omega arith)
 give-up-sends (view.ends w) (inr z) = absurd (omega arith)
 
-sends : (p : Peer) (c : Call) (id : ℕ) → Invariant p → (callOf p c .octets ≡ successResponse id) ⊎ (callOf p c .number ≡ 2) → (p .stage ≡ SuccessResponseSent) ⊎ ByStep Confirms p c
+sends : (p : Peer) (c : Call) (id : ℕ) → Invariant p → (callOf p c .octets ≡ successResponse id) ⊎ (callOf p c .number ≡ 2) → (p .stage ≡ SuccessResponseSent) ⊎ Accepts p c
 unfolding callOf
 sends p (step s random room) id h z = step-sends h (stepped p s random room) z
 sends p (supply name hash random room) id h z = supply-sends (supplied p name hash random room) z
@@ -146,10 +146,10 @@ sends p giveUp id h z = give-up-sends (gave-up p) z
 pub success-earned : SuccessEarned
 success-earned name hash cs c p id l a e z = go (sends (after p cs) c id (rw e (reached _ (record { name = name; hash = hash; calls = cs; sixteen = l; are = a; is = refl }))) z)
   where
-    come : (p .stage ≡ SuccessResponseSent) ⊎ SomeConfirms p cs → SomeConfirms p (cs ++ (c ∷ []))
+    come : (p .stage ≡ SuccessResponseSent) ⊎ SomeAccepts p cs → SomeAccepts p (cs ++ (c ∷ []))
     come (inl f) = apart (p .stage) (rw e (initial-apart name hash)) f
     come (inr f) = before p cs (c ∷ []) f
 
-    go : (after p cs .stage ≡ SuccessResponseSent) ⊎ ByStep Confirms (after p cs) c → SomeConfirms p (cs ++ (c ∷ []))
+    go : (after p cs .stage ≡ SuccessResponseSent) ⊎ Accepts (after p cs) c → SomeAccepts p (cs ++ (c ∷ []))
     go (inl f) = come (entered p cs f)
     go (inr f) = at-last p cs c f

@@ -17,7 +17,7 @@ use Rattle.answer.specs.Sizes.{maxPacket, maxName}
 use Rattle.answer.proofs.Outcomes.{fitting-so}
 use Rattle.packet.specs.declared.End.the-variants as end
 use Rattle.packet.specs.declared.Kind.{Kind}
-use Rattle.packet.specs.declared.Kind.the-variants.{Challenge, SuccessRequest, FailureRequest, RetryRequest, EapSuccess, EapFailure}
+use Rattle.packet.specs.declared.Kind.the-variants.{Challenge, Response, SuccessRequest, FailureRequest, RetryRequest, SuccessResponse, FailureResponse, EapSuccess, EapFailure}
 use Rattle.packet.specs.declared.Packet.{Packet}
 use Rattle.packet.specs.Forms.{successResponse, failureResponse}
 use Rattle.packet.specs.Kinds.{isRequest}
@@ -25,22 +25,34 @@ use Rattle.packet.specs.Reader.{readPacket, challengeIn}
 use Rattle.packet.specs.Promises.{successReading}
 use Rattle.packet.proofs.Sizes.{length-success}
 use Rattle.packet.proofs.Back.{tail-size, success-back}
-use Rattle.packet.proofs.Readings.{tells, read-id}
+use Rattle.packet.proofs.Readings.{Shape, tells, read-id}
 use Rattle.peer.specs.declared.Peer.{Peer}
 use Rattle.peer.specs.declared.Stage.{Stage}
 use Rattle.peer.specs.declared.Stage.the-variants.{Begin, ChallengeResponseSent, SuccessResponseSent, FailureResponseSent, Waiting, Success, Failed}
-use Rattle.peer.specs.State.{ownName, lastRequest, lastReply, lastId, responseTo, rightDigits, initial, staged, answered, responded, awaiting, supplied}
+use Rattle.peer.specs.State.{ownName, lastRequest, lastReply, lastId, lastChapId, responseTo, rightDigits, initial, staged, answered, responded, awaiting, supplied}
 use Rattle.peer.specs.Moves.{takes, moveOf, sent, waiting, repeats, misnumbered, turnOf}
 use Rattle.peer.specs.Calls.{newOf, renewedIn, digitsIn, says, writes, confirmation, answerOf, nextOf, leftBy, leaving, movedOf, turnIn, takenOf, readOf, stepOf, responseBy, resumeOf, supplyOf}
+use Rattle.peerlaws.specs.Exact.{responseIn, responding, supplying}
 use Rattle.peerlaws.specs.Promises.{AnyTailTaken, Unlike, AnyChapIdTaken}
-
--- the Response to a Challenge
-abbrev pub responseIn : Peer → Packet → List ℕ → List ℕ → List ℕ
-responseIn p k q random = responseTo (k .id .0) (k .chapid .0) (challengeIn k q) random (ownName p) (p .credentials .hash)
 
 -- ---- a packet that was read, cut at L: octet 1 is its Identifier, and it is no longer than the state's place for it
 pub id-here : (s : List ℕ) (k : Packet) → readPacket end.Peer s ≡ gives k → getD (take (k .length) s) 1 0 ≡ k .id .0
 id-here s k read = getD-take (k .length) s 1 0 (omega (arith, tells end.Peer s k read .least)) ∙ sym (read-id end.Peer s k read)
+
+-- a Request's octet 6 is its MS-CHAPv2-ID
+chap-of : (kind : Kind) (q : List ℕ) (k : Packet) → isRequest kind ≡ true → Shape kind q k → k .chapid .0 ≡ getD q 6 0
+chap-of Challenge q k f s = ap (λ (x : Packet). x .chapid .0) (s .reads)
+chap-of Response q k f s = clash refl f
+chap-of SuccessRequest q k f s = ap (λ (x : Packet). x .chapid .0) (s .reads)
+chap-of FailureRequest q k f s = ap (λ (x : Packet). x .chapid .0) (s .reads)
+chap-of RetryRequest q k f s = ap (λ (x : Packet). x .chapid .0) (s .reads)
+chap-of SuccessResponse q k f s = clash refl f
+chap-of FailureResponse q k f s = clash refl f
+chap-of EapSuccess q k f s = clash refl f
+chap-of EapFailure q k f s = clash refl f
+
+pub chap-here : (s : List ℕ) (k : Packet) → readPacket end.Peer s ≡ gives k → isRequest (k .kind) ≡ true → getD (take (k .length) s) 6 0 ≡ k .chapid .0
+chap-here s k read f = sym (chap-of (k .kind) (take (k .length) s) k f (tells end.Peer s k read .shape))
 
 pub cut-most : (s : List ℕ) (k : Packet) → readPacket end.Peer s ≡ gives k → length (take (k .length) s) ≤ maxPacket
 cut-most s k read = omega (arith, length-take (k .length) s, tells end.Peer s k read .most)
@@ -57,7 +69,7 @@ module _ (p : Peer) (s random : List ℕ) (room : ℕ) (k : Packet) (read : read
   abbrev q : List ℕ
   q = take (k .length) s
 
-  turned : stepOf p s random room ≡ movedOf (turnOf (p .stage) (k .kind) (same q (lastRequest p)) (octetIs (lastRequest p) 1 (k .id .0))) p k q random room
+  pub turned : stepOf p s random room ≡ movedOf (turnOf (p .stage) (k .kind) (same q (lastRequest p)) (octetIs (lastRequest p) 1 (k .id .0))) p k q random room
   unfolding stepOf readOf takenOf turnIn
   turned = ap (λ (t : Told Packet). readOf t p s random room) read ∙ pick-true _ _ _ refl
 
@@ -85,22 +97,22 @@ module _ (p : Peer) (s random : List ℕ) (room : ℕ) (k : Packet) (read : read
       ∙ ap (λ m. movedOf m p k q random room) (pick-true _ _ _ (pick-false _ _ _ (ap not a) ∙ pick-false _ _ _ (ap not b) ∙ ap (λ (x : List ℕ). same x (lastRequest p)) c ∙ same-refl (lastRequest p)))
 
   -- ---- the table's move
-  taken : (same known : Bool) → repeats (p .stage) (k .kind) same ≡ false → misnumbered (p .stage) (k .kind) known ≡ false → takes (p .stage) (k .kind) ≡ true
+  pub moved-on : (same known : Bool) → repeats (p .stage) (k .kind) same ≡ false → misnumbered (p .stage) (k .kind) known ≡ false → takes (p .stage) (k .kind) ≡ true
       → movedOf (turnOf (p .stage) (k .kind) same known) p k q random room ≡ movedOf (moveOf (k .kind)) p k q random room
   unfolding turnOf
-  taken same known r i t = ap (λ m. movedOf m p k q random room) (pick-false _ _ _ r ∙ pick-false _ _ _ (ap not t) ∙ pick-false _ _ _ i)
+  moved-on same known r i t = ap (λ m. movedOf m p k q random room) (pick-false _ _ _ r ∙ pick-false _ _ _ (ap not t) ∙ pick-false _ _ _ i)
 
   -- a Request, under an Identifier that is not the last answered one
   request-taken : takes (p .stage) (k .kind) ≡ true → isRequest (k .kind) ≡ true → Unlike p (k .id .0) → stepOf p s random room ≡ movedOf (moveOf (k .kind)) p k q random room
   unfolding repeats misnumbered
-  request-taken t r n = newly n ∙ taken false false (either-not _ _ (either-not _ _ refl)) (either-not _ _ (pick-true _ _ _ r)) t
+  request-taken t r n = newly n ∙ moved-on false false (either-not _ _ (either-not _ _ refl)) (either-not _ _ (pick-true _ _ _ r)) t
 
   -- EAP Success or Failure, under the last answered one
   end-taken : takes (p .stage) (k .kind) ≡ true → isRequest (k .kind) ≡ false → lastId p ≡ k .id .0 → stepOf p s random room ≡ movedOf (moveOf (k .kind)) p k q random room
   unfolding repeats misnumbered octetIs lastId
   end-taken t r e =
       turned
-      ∙ taken (same q (lastRequest p)) (octetIs (lastRequest p) 1 (k .id .0)) (either-not _ _ (pick-true _ _ _ (ap not r))) (either-not _ _ (pick-false _ _ _ r ∙ ap not (eq-eqb _ _ e))) t
+      ∙ moved-on (same q (lastRequest p)) (octetIs (lastRequest p) 1 (k .id .0)) (either-not _ _ (pick-true _ _ _ (ap not r))) (either-not _ _ (pick-false _ _ _ r ∙ ap not (eq-eqb _ _ e))) t
 
   -- ---- by stage and kind
   request-at : (g : Stage) (kind : Kind) → takes g kind ≡ true → isRequest kind ≡ true → p .stage ≡ g → k .kind ≡ kind → Unlike p (k .id .0) → stepOf p s random room ≡ movedOf (moveOf kind) p k q random room
@@ -110,12 +122,12 @@ module _ (p : Peer) (s random : List ℕ) (room : ℕ) (k : Packet) (read : read
   end-at g kind t r e f i = end-taken ((λ j. takes (e j) (f j)) ∙ t) (ap isRequest f ∙ r) i ∙ ap (λ (x : Kind). movedOf (moveOf x) p k q random room) f
 
   pub responds-so : p .stage ≡ Begin → k .kind ≡ Challenge → length (responseIn p k q random) ≤ room
-      → stepOf p s random room ≡ outcome 0 (responseIn p k q random) (responded (challengeIn k q) random (k .chapid) q (responseIn p k q random) p)
+      → stepOf p s random room ≡ responding p k q random
   unfolding movedOf answerOf leftBy nextOf pick
   responds-so e f r = request-at Begin Challenge refl refl e f (λ z. clash (ap sent e) z) ∙ fitting-so room p _ r
 
   -- a Success Request: by its digits
-  right-or-other : (b : Bool) → leaving (pick b (writes (successResponse (k .id .0))) (says 3)) (moveOf SuccessRequest) k q random p
+  pub right-or-other : (b : Bool) → leaving (pick b (writes (successResponse (k .id .0))) (says 3)) (moveOf SuccessRequest) k q random p
       ≡ pick b (outcome 0 (successResponse (k .id .0)) (answered SuccessResponseSent q (successResponse (k .id .0)) p)) (outcome 3 [] (staged Failed p))
   unfolding leftBy nextOf pick
   right-or-other true = refl
@@ -132,7 +144,7 @@ module _ (p : Peer) (s random : List ℕ) (room : ℕ) (k : Packet) (read : read
   unfolding movedOf answerOf leftBy nextOf pick
   fails-so e f d r = request-at ChallengeResponseSent FailureRequest refl refl e f (λ z. d) ∙ fitting-so room p _ r
 
-  pub waits-so : p .stage ≡ ChallengeResponseSent → k .kind ≡ RetryRequest → (k .id .0 ≡ lastId p → ⊥) → stepOf p s random room ≡ outcome 1 [] (awaiting (renewedIn k q) (k .chapid) q p)
+  pub waits-so : p .stage ≡ ChallengeResponseSent → k .kind ≡ RetryRequest → (k .id .0 ≡ lastId p → ⊥) → stepOf p s random room ≡ outcome 1 [] (awaiting (renewedIn k q) q p)
   unfolding movedOf answerOf leftBy pick
   waits-so e f d = request-at ChallengeResponseSent RetryRequest refl refl e f (λ z. d) ∙ fitting-so room p _ (omega arith)
 
@@ -171,6 +183,6 @@ unfolding supplyOf
 resumes-so p name hash random room e h = pick-false _ _ _ (ap (λ (g : Stage). not (waiting g)) e) ∙ pick-false _ _ _ (le-ltb _ _ h)
 
 pub supplies-so : (p : Peer) (name hash random : List ℕ) (room : ℕ) → p .stage ≡ Waiting → length name ≤ maxName → length (responseBy p name hash random) ≤ room
-    → supplyOf p name hash random room ≡ outcome 0 (responseBy p name hash random) (supplied name hash random (responseBy p name hash random) p)
+    → supplyOf p name hash random room ≡ supplying p name hash random
 unfolding resumeOf
 supplies-so p name hash random room e h r = resumes-so p name hash random room e h ∙ fitting-so room p _ r

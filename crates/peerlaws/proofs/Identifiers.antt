@@ -26,8 +26,9 @@ use Rattle.peer.specs.declared.Peer.{Peer}
 use Rattle.peer.specs.State.{replyRoom, responseTo, rightDigits, answered, responded, awaiting}
 use Rattle.peer.specs.Moves.{takes, moveOf, repeats, misnumbered, turnOf}
 use Rattle.peer.specs.Calls.{renewedIn, digitsIn, says, writes, confirmation, answerOf, nextOf, leftBy, leaving, movedOf, readOf, stepOf}
+use Rattle.peerlaws.specs.Exact.{responseIn}
 use Rattle.peerlaws.specs.Promises.{unnumberedState, unnumbered, EqualityOnly}
-use Rattle.peerlaws.proofs.Forward.{responseIn, newly}
+use Rattle.peerlaws.proofs.Forward.{newly}
 use Rattle.peerlaws.proofs.Twins.{Twin, twin, twin-take, twin-sized, twin-set, drops, parts}
 
 -- where the peer looks into a packet, it looks past its Identifier: its places start there
@@ -105,11 +106,11 @@ module _ (p : Peer) (k : Packet) (i j : ℕ) (q q′ random : List ℕ) (room : 
   waits : 2 ≤ k .challenge .start → unnumbered (movedOf (moveOf RetryRequest) p (under i k) q random room) ≡ unnumbered (movedOf (moveOf RetryRequest) p (under j k) q′ random room)
   unfolding movedOf answerOf leftBy pick awaiting renewedIn unnumberedState
   waits h =
-      sends 1 (awaiting (renewedIn k q) (k .chapid) q p) (awaiting (renewedIn k q′) (k .chapid) q′ p) [] [] (record { size = refl; octet = λ x n. refl })
+      sends 1 (awaiting (renewedIn k q) q p) (awaiting (renewedIn k q′) q′ p) [] [] (record { size = refl; octet = λ x n. refl })
       (λ x. record {
         stage = Waiting;
         credentials = p .credentials;
-        challenges = record { authenticator = cells 16 (unhexAt (parts q q′ t (k .challenge .start) 32 h x)); own = p .challenges .own; chapid = k .chapid };
+        challenges = record { authenticator = cells 16 (unhexAt (parts q q′ t (k .challenge .start) 32 h x)); own = p .challenges .own; chapid = p .challenges .chapid };
         request = request x;
         requestlen = t .size x;
         reply = set (p .reply) 1 0;

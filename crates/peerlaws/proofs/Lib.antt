@@ -1,4 +1,5 @@
 pub mod Forward
+pub mod Exact
 pub mod Views
 pub mod Sizes
 pub mod Promises
@@ -9,3 +10,5 @@ pub mod Twins
 pub mod Identifiers
 pub mod ReadBack
 pub mod Retries
+pub mod Rooms
+pub mod Remarks

@@ -26,43 +26,43 @@ use Rattle.peer.specs.State.{lastRequest, lastReply, responseTo, staged, answer
 use Rattle.peer.specs.Moves.{takes, sent, repeats, turnOf}
 use Rattle.peer.specs.Calls.{answerOf, leftBy, movedOf, turnIn, takenOf, readOf, stepOf, responseBy}
 use Rattle.packet.proofs.Readings.{ReadOrRefused, none as unread, some, read-or-refused}
-use Rattle.peerlaws.specs.Runs.{step, supply, giveUp, callOf}
-use Rattle.peerlaws.specs.Promises.{Leaves, written, credentials, authenticated, ended, refusal, AnswersLeave, Repeats, Confirms, SuccessOnlyIfRight, NoPacketTaken}
-use Rattle.peerlaws.proofs.Forward.{responseIn}
+use Rattle.peerlaws.specs.Exact.{Repeats, responseIn}
+use Rattle.peerlaws.specs.Runs.{Call, step, supply, giveUp, callOf}
+use Rattle.peerlaws.specs.Promises.{Leaves, written, credentials, authenticated, ended, refusal, AnswersLeave, Confirms, SuccessOnlyIfRight, NoPacketTaken}
 use Rattle.peerlaws.proofs.Views.{Moved, responds, accepts, fails, waits, succeeds, ends, Stepped, stepped, Supplied, supplied, GaveUp, gave-up}
 use Rattle.peerlaws.proofs.Views as view
 
 -- ---- 1
 -- what the outcome o leaves
-abbrev Left : Peer → List ℕ → Outcome Peer → Type 0
-Left p b o = Leaves p b (o .number) (length (o .octets)) (o .state) (over (o .octets) b)
+abbrev Left : Peer → Call → List ℕ → Outcome Peer → Type 0
+Left p c b o = Leaves p c b (o .number) (length (o .octets)) (o .state) (over (o .octets) b)
 
 module _ {p : Peer} {b : List ℕ} {room : ℕ} (e : length b ≡ room) where
-  moved-leaves : {k : Packet} {q random : List ℕ} {o : Outcome Peer} → Moved p k q random room o → Left p b o
+  moved-leaves : {c : Call} {k : Packet} {q random : List ℕ} {o : Outcome Peer} → Moved p k q random room o → Left p c b o
   unfolding responded answered awaiting staged
-  moved-leaves {k} {q} {random} (responds f g h) = written (responseIn p k q random) _ (rw (← e) at h) refl
-  moved-leaves {k} (accepts f g r h) = written (successResponse (k .id .0)) _ (rw (← e) at h) refl
-  moved-leaves {k} (fails f g h) = written (failureResponse (k .id .0)) _ (rw (← e) at h) refl
+  moved-leaves {c} {k} {q} {random} (responds f g h) = written (responseIn p k q random) _ (rw (← e) at h) refl
+  moved-leaves {c} {k} (accepts f g r h) = written (successResponse (k .id .0)) _ (rw (← e) at h) refl
+  moved-leaves {c} {k} (fails f g h) = written (failureResponse (k .id .0)) _ (rw (← e) at h) refl
   moved-leaves (waits f g) = credentials _ refl
   moved-leaves (succeeds f) = authenticated _ refl
   moved-leaves ends = ended _ refl
 
-  step-leaves : {s random : List ℕ} {o : Outcome Peer} → Stepped p s random room o → Left p b o
-  step-leaves (view.refuses n h l) = refusal n h l
+  step-leaves : {s random : List ℕ} {o : Outcome Peer} → Stepped p s random room o → Left p (step s random room) b o
+  step-leaves (view.refuses n h l) = refusal n (h, l)
   step-leaves (view.repeats-it r h) = written (lastReply p) _ (rw (← e) at h) (r .stage)
   step-leaves (view.moves k f m) = moved-leaves m
 
-  supply-leaves : {name hash random : List ℕ} {o : Outcome Peer} → Supplied p name hash random room o → Left p b o
+  supply-leaves : {name hash random : List ℕ} {o : Outcome Peer} → Supplied p name hash random room o → Left p (supply name hash random room) b o
   unfolding suppliedState
-  supply-leaves (view.refuses n h l) = refusal n h l
-  supply-leaves {name} {hash} {random} (view.supplies w f h) = written (responseBy p name hash random) _ (rw (← e) at h) refl
+  supply-leaves (view.refuses n h l) = refusal n l
+  supply-leaves {name} {hash} {random} (view.supplies-it w f h) = written (responseBy p name hash random) _ (rw (← e) at h) refl
 
-give-up-leaves : {p : Peer} {b : List ℕ} {o : Outcome Peer} → GaveUp p o → Left p b o
+give-up-leaves : {p : Peer} {b : List ℕ} {o : Outcome Peer} → GaveUp p o → Left p giveUp b o
 unfolding staged
-give-up-leaves (view.refuses n h l) = refusal n h l
+give-up-leaves (view.refuses n h l) = refusal n l
 give-up-leaves (view.ends w) = ended _ refl
 
-does-leave : {p : Peer} {o : Outcome Peer} {k n : ℕ} {s : Peer} {before after : List ℕ} → Does o k n s before after → Left p before o → Leaves p before k n s after
+does-leave : {p : Peer} {c : Call} {o : Outcome Peer} {k n : ℕ} {s : Peer} {before after : List ℕ} → Does o k n s before after → Left p c before o → Leaves p c before k n s after
 does-leave d l = rw (d .answered, d .count, d .left, d .written) l
 
 pub answers-leave : AnswersLeave
@@ -80,10 +80,10 @@ response-op id chapid own response name = refl
 pub other : {A : Type 0} (q : List ℕ) (id x : ℕ) → getD q 5 0 ≡ x → (x ≡ 3 → ⊥) → q ≡ successResponse id → A
 other q id x f n e = absurd (n (sym f ∙ ap (λ (l : List ℕ). getD l 5 0) e))
 
-pub moved-confirms : {p : Peer} {s random : List ℕ} {room id : ℕ} {o : Outcome Peer} (k : Packet) → readPacket end.Peer s ≡ gives k → Moved p k (take (k .length) s) random room o → o .octets ≡ successResponse id → Confirms p s
+pub moved-confirms : {p : Peer} {s random : List ℕ} {room id : ℕ} {o : Outcome Peer} (k : Packet) → readPacket end.Peer s ≡ gives k → Moved p k (take (k .length) s) random room o → o .octets ≡ successResponse id → Confirms p s × (o .number ≡ 0)
 unfolding responseTo
 moved-confirms k e (responds f g h) z = other _ _ 2 (response-op _ _ _ _ _) (λ n. absurd (omega arith)) z
-moved-confirms k e (accepts f g r h) z = record { stage = f; packet = k; reads = e; success = g; right = r }
+moved-confirms k e (accepts f g r h) z = (record { stage = f; packet = k; reads = e; success = g; right = r }, refl)
 moved-confirms k e (fails f g h) z = other _ _ 4 refl (λ n. absurd (omega arith)) z
 moved-confirms k e (waits f g) z = other [] _ 0 refl (λ n. absurd (omega arith)) z
 moved-confirms k e (succeeds f) z = other [] _ 0 refl (λ n. absurd (omega arith)) z
@@ -92,12 +92,12 @@ moved-confirms k e ends z = other [] _ 0 refl (λ n. absurd (omega arith)) z
 step-confirms : {p : Peer} {s random : List ℕ} {room id : ℕ} {o : Outcome Peer} → Stepped p s random room o → o .octets ≡ successResponse id → Repeats p s ⊎ Confirms p s
 step-confirms (view.refuses n h l) z = other [] _ 0 refl (λ n. absurd (omega arith)) z
 step-confirms (view.repeats-it r h) z = inl r
-step-confirms (view.moves k e m) z = inr (moved-confirms k e m z)
+step-confirms (view.moves k e m) z = inr (moved-confirms k e m z .0)
 
 pub supply-confirms : {A : Type 0} {p : Peer} {name hash random : List ℕ} {room id : ℕ} {o : Outcome Peer} → Supplied p name hash random room o → o .octets ≡ successResponse id → A
 unfolding responseBy responseTo
 supply-confirms (view.refuses n h l) z = other [] _ 0 refl (λ n. absurd (omega arith)) z
-supply-confirms (view.supplies w f h) z = other _ _ 2 (response-op _ _ _ _ _) (λ n. absurd (omega arith)) z
+supply-confirms (view.supplies-it w f h) z = other _ _ 2 (response-op _ _ _ _ _) (λ n. absurd (omega arith)) z
 
 pub give-up-confirms : {A : Type 0} {p : Peer} {id : ℕ} {o : Outcome Peer} → GaveUp p o → o .octets ≡ successResponse id → A
 give-up-confirms (view.refuses n h l) z = other [] _ 0 refl (λ n. absurd (omega arith)) z

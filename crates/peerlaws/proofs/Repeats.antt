@@ -19,15 +19,16 @@ use Rattle.packet.specs.declared.Packet.{Packet}
 use Rattle.packet.specs.Kinds.{isRequest}
 use Rattle.packet.specs.Reader.{readPacket, challengeIn}
 use Rattle.peer.specs.declared.Peer.{Peer}
-use Rattle.peer.specs.State.{replyRoom, ownName, lastRequest, lastReply, lastId, answered, responded, supplied as suppliedState}
+use Rattle.peer.specs.State.{replyRoom, ownName, lastRequest, lastReply, lastId, lastChapId, answered, responded, supplied as suppliedState}
 use Rattle.peer.specs.Moves.{sent, waiting}
 use Rattle.peer.specs.Calls.{stepOf, responseBy}
+use Rattle.peerlaws.specs.Exact.{Repeats, responseIn}
 use Rattle.peerlaws.specs.Runs.{Call, step, supply, giveUp, callOf, roomOf, after, IsPeer, IsCall}
-use Rattle.peerlaws.specs.Promises.{Leaves, written, credentials, authenticated, ended, refusal, Repeats, Request, Answers, NoNewAnswer, NoNewAnswers, RepeatRule}
+use Rattle.peerlaws.specs.Promises.{Leaves, written, credentials, authenticated, ended, refusal, Request, Answers, NoNewAnswer, NoNewAnswers, RepeatRule}
 use Rattle.packet.proofs.Readings.{tells, read-padded}
 use Rattle.octets.proofs.Lists.{take-sized}
 use Rattle.peer.proofs.Replies.{length-response-to}
-use Rattle.peerlaws.proofs.Forward.{responseIn, cut-most, repeated}
+use Rattle.peerlaws.proofs.Forward.{cut-most, repeated}
 use Rattle.peerlaws.proofs.Promises.{answers-leave}
 use Rattle.peerlaws.proofs.Views.{Moved, responds, accepts, fails, waits, succeeds, ends, Stepped, stepped, Supplied, supplied}
 use Rattle.peerlaws.proofs.Views as view
@@ -83,13 +84,13 @@ module _ (p : Peer) (s random : List ℕ) (room : ℕ) (i : IsPeer p) (r : lengt
 pub supply-stores : (p : Peer) (name hash random : List ℕ) (room : ℕ) → length random ≡ 16 → {o : Outcome Peer} → Supplied p name hash random room o → o .number ≡ 0 → Request (lastRequest p) → Answering (o .state) (lastRequest p) (o .octets)
 unfolding suppliedState responseBy lastRequest lastReply
 supply-stores p name hash random room r (view.refuses n h l) z t = absurd (omega arith)
-supply-stores p name hash random room r (view.supplies w f h) z t =
-    let b : length (responseBy p name hash random) ≤ replyRoom = omega (arith, length-response-to (lastId p) (p .challenges .chapid .0) (p .challenges .authenticator) random name hash r) in
+supply-stores p name hash random room r (view.supplies-it w f h) z t =
+    let b : length (responseBy p name hash random) ≤ replyRoom = omega (arith, length-response-to (lastId p) (lastChapId p) (p .challenges .authenticator) random name hash r) in
     record { stage = refl; request = refl; reply = take-sized replyRoom (responseBy p name hash random) b; is = t }
 
 waited : {p : Peer} {name hash random : List ℕ} {room : ℕ} {o : Outcome Peer} → Supplied p name hash random room o → o .number ≡ 0 → waiting (p .stage) ≡ true
 waited (view.refuses n h l) z = absurd (omega arith)
-waited (view.supplies w f l) z = ap waiting w
+waited (view.supplies-it w f l) z = ap waiting w
 
 pub answer-stores : (p : Peer) (c : Call) (q : List ℕ) → IsPeer p → (waiting (p .stage) ≡ true → Request (lastRequest p)) → IsCall c → Answers p c q → Answering (callOf p c .state) q (callOf p c .octets)
 unfolding callOf
@@ -104,12 +105,12 @@ pub repeat-again : (p : Peer) (s random : List ℕ) (room : ℕ) → Repeats p s
 repeat-again p s random room t = repeated p s random room (t .packet) (t .reads) (t .stage) (t .request) (t .same)
 
 -- a call that brings no new answer leaves the state as it is
-left-same : {p s : Peer} {b a : List ℕ} {k n : ℕ} → Leaves p b k n s a → 10 ≤ k → s ≡ p
+left-same : {p s : Peer} {c : Call} {b a : List ℕ} {k n : ℕ} → Leaves p c b k n s a → 10 ≤ k → s ≡ p
 left-same (written q s h f) n = absurd (omega arith)
 left-same (credentials s f) n = absurd (omega arith)
 left-same (authenticated s f) n = absurd (omega arith)
 left-same (ended s f) n = absurd (omega arith)
-left-same (refusal k h l) n = refl
+left-same (refusal k h) n = refl
 
 pub refused-same : (p : Peer) (c : Call) → 10 ≤ callOf p c .number → callOf p c .state ≡ p
 refused-same p c n =

@@ -8,6 +8,7 @@ use Rattle.octets.proofs.Exits.{arms}
 use Rattle.octets.proofs.Lists.{length-cells, length-sized}
 use Rattle.answer.specs.Outcome.{Outcome}
 use Rattle.answer.specs.Sizes.{maxPacket, maxName}
+use Rattle.answer.specs.declared.ChapId.{ChapId}
 use Rattle.packet.specs.declared.Packet.{Packet}
 use Rattle.packet.specs.Reader.{challengeIn}
 use Rattle.peer.specs.declared.Stage.{Stage}
@@ -22,7 +23,7 @@ use Rattle.peerlaws.proofs.Views as view
 is-credentials : (name hash : List ℕ) → length hash ≡ 16 → IsCredentials (credentialsOf name hash)
 is-credentials name hash h = record { name = length-sized maxName name; hash = h }
 
-is-initial : (stage : Stage) (name hash : List ℕ) → length hash ≡ 16 → IsPeer (initial stage name hash)
+pub is-initial : (stage : Stage) (name hash : List ℕ) → length hash ≡ 16 → IsPeer (initial stage name hash)
 unfolding initial
 is-initial stage name hash h = record {
   credentials = is-credentials name hash h;
@@ -34,6 +35,10 @@ is-initial stage name hash h = record {
 pub new-is : (name hash : List ℕ) → length hash ≡ 16 → IsPeer (newOf name hash .state)
 unfolding newOf
 new-is name hash h = arms (λ (o : Outcome Peer). IsPeer (o .state)) (ltb maxName (length name)) (is-initial Failed [] _ (length-replicate {A = ℕ} 16 0)) (is-initial Begin name hash h)
+
+renewed : (k : Packet) (q : List ℕ) → length (renewedIn k q) ≡ 16
+unfolding renewedIn
+renewed k q = length-cells 16 _
 
 module _ (p : Peer) (i : IsPeer p) where
   is-staged : (stage : Stage) → IsPeer (staged stage p)
@@ -48,19 +53,19 @@ module _ (p : Peer) (i : IsPeer p) where
   unfolding responded challengeIn
   is-responded k q random w r = record { credentials = i .credentials; challenges = record { authenticator = length-sized 16 _; own = r }; request = length-sized maxPacket q; reply = length-sized replyRoom _ }
 
-  is-awaiting : (k : Packet) (q : List ℕ) → IsPeer (awaiting (renewedIn k q) (k .chapid) q p)
-  unfolding awaiting renewedIn
-  is-awaiting k q = record { credentials = i .credentials; challenges = record { authenticator = length-cells 16 _; own = i .challenges .own }; request = length-sized maxPacket q; reply = i .reply }
+  pub is-awaiting : (c q : List ℕ) → length c ≡ 16 → IsPeer (awaiting c q p)
+  unfolding awaiting
+  is-awaiting c q h = record { credentials = i .credentials; challenges = record { authenticator = h; own = i .challenges .own }; request = length-sized maxPacket q; reply = i .reply }
 
-  is-supplied : (name hash random w : List ℕ) → length hash ≡ 16 → length random ≡ 16 → IsPeer (suppliedState name hash random w p)
+  is-supplied : (name hash random : List ℕ) (chapid : ChapId) (w : List ℕ) → length hash ≡ 16 → length random ≡ 16 → IsPeer (suppliedState name hash random chapid w p)
   unfolding suppliedState
-  is-supplied name hash random w e r = record { credentials = is-credentials name hash e; challenges = record { authenticator = i .challenges .authenticator; own = r }; request = i .request; reply = length-sized replyRoom _ }
+  is-supplied name hash random chapid w e r = record { credentials = is-credentials name hash e; challenges = record { authenticator = i .challenges .authenticator; own = r }; request = i .request; reply = length-sized replyRoom _ }
 
   moved-is : {k : Packet} {q random : List ℕ} {room : ℕ} {o : Outcome Peer} → length random ≡ 16 → Moved p k q random room o → IsPeer (o .state)
   moved-is {k} {q} {random} r (responds f g l) = is-responded k q random _ r
   moved-is r (accepts f g d l) = is-answered _ _ _
   moved-is r (fails f g l) = is-answered _ _ _
-  moved-is {k} {q} r (waits f g) = is-awaiting k q
+  moved-is {k} {q} r (waits f g) = is-awaiting (renewedIn k q) q (renewed k q)
   moved-is r (succeeds f) = is-staged _
   moved-is r ends = is-staged _
 
@@ -71,7 +76,7 @@ module _ (p : Peer) (i : IsPeer p) where
 
   supply-is : {name hash random : List ℕ} {room : ℕ} {o : Outcome Peer} → length hash ≡ 16 → length random ≡ 16 → Supplied p name hash random room o → IsPeer (o .state)
   supply-is e r (view.refuses n h l) = i
-  supply-is {name} {hash} {random} e r (view.supplies w f l) = is-supplied name hash random _ e r
+  supply-is {name} {hash} {random} e r (view.supplies-it w f l) = is-supplied name hash random _ _ e r
 
   give-up-is : {o : Outcome Peer} → GaveUp p o → IsPeer (o .state)
   give-up-is (view.refuses n h l) = i

@@ -1,2 +1,4 @@
 pub mod Runs
+pub mod Exact
 pub mod Promises
+pub mod Remarks

@@ -23,34 +23,33 @@ use Rattle.mschap.specs.Responses.{ntResponse, authenticatorOf, digitsOf}
 use Rattle.peer.specs.declared.Stage.{Stage}
 use Rattle.peer.specs.declared.Stage.the-variants.{Begin, ChallengeResponseSent, SuccessResponseSent, FailureResponseSent, Waiting, Success, Failed}
 use Rattle.peer.specs.declared.Peer.{Peer}
-use Rattle.peer.specs.State.{ownName, lastRequest, lastReply, lastId, responseTo, outstanding, rightDigits, staged, answered, supplied}
+use Rattle.peer.specs.State.{replyRoom, ownName, lastRequest, lastReply, lastId, responseTo, outstanding, rightDigits, staged, answered, supplied}
 use Rattle.peer.specs.Moves.{takes, moveOf, sent, waiting}
 use Rattle.peer.specs.Calls.{newOf, renewedIn, digitsIn, movedOf, stepOf, supplyOf}
+use Rattle.peerlaws.specs.Exact.{Repeats, responding, supplying}
 use Rattle.peerlaws.specs.Runs.{Call, step, supply, giveUp, callOf, roomOf, after, IsPeer, IsCall, AreCalls, Reached}
 
--- ---- 1. "What a call answers": the number, n, the state and the buffer that a call can leave, where it took the state p and the buffer b
-pub data Leaves (p : Peer) (b : List ℕ) : (k n : ℕ) (s : Peer) (b′ : List ℕ) → Type 0 where
-  written : (q : List ℕ) (s : Peer) → length q ≤ length b → sent (s .stage) ≡ true → Leaves p b 0 (length q) s (over q b)
-  credentials : (s : Peer) → s .stage ≡ Waiting → Leaves p b 1 0 s b
-  authenticated : (s : Peer) → s .stage ≡ Success → Leaves p b 2 0 s b
-  ended : (s : Peer) → s .stage ≡ Failed → Leaves p b 3 0 s b
+-- ---- 1. "What a call answers": the number, n, the state and the buffer that the call c can leave, where it took the state p and the buffer b
+-- the numbers from 10 up that a packet can bring, and those of "other calls". What makes a peer is `NewExact`
+abbrev pub Refusal : Call → ℕ → Type 0
+Refusal (step s random room) k = (10 ≤ k) × (k ≤ 20)
+Refusal (supply name hash random room) k = (k ≡ 19) ⊎ ((k ≡ 23) ⊎ (k ≡ 20))
+Refusal giveUp k = k ≡ 19
+
+pub data Leaves (p : Peer) (c : Call) (b : List ℕ) : (k n : ℕ) (s : Peer) (b′ : List ℕ) → Type 0 where
+  written : (q : List ℕ) (s : Peer) → length q ≤ length b → sent (s .stage) ≡ true → Leaves p c b 0 (length q) s (over q b)
+  credentials : (s : Peer) → s .stage ≡ Waiting → Leaves p c b 1 0 s b
+  authenticated : (s : Peer) → s .stage ≡ Success → Leaves p c b 2 0 s b
+  ended : (s : Peer) → s .stage ≡ Failed → Leaves p c b 3 0 s b
   -- "Numbers from 10 up change no state and no lent octet, and n = 0."
-  refusal : (k : ℕ) → 10 ≤ k → k ≤ 23 → Leaves p b k 0 p b
+  refusal : (k : ℕ) → Refusal c k → Leaves p c b k 0 p b
 
 abbrev pub AnswersLeave : Type 0
 AnswersLeave =
     (p : Peer) (c : Call) (k n : ℕ) (s : Peer) (b b′ : List ℕ) → length b ≡ roomOf c → Does (callOf p c) k n s b b′ →
-    Leaves p b k n s b′
+    Leaves p c b k n s b′
 
 -- ---- 2. A Success Response goes out first only in CHALLENGE_RESPONSE_SENT, and only for the right string
--- the repeat rule's case: "in the three SENT stages a Request whose first L octets equal the last answered request's"
-pub record Repeats (p : Peer) (s : List ℕ) : Type 0 where
-  pub stage : sent (p .stage) ≡ true
-  pub packet : Packet
-  pub reads : readPacket end.Peer s ≡ gives packet
-  pub request : isRequest (packet .kind) ≡ true
-  pub same : take (packet .length) s ≡ lastRequest p
-
 -- a Success Request, right string
 pub record Confirms (p : Peer) (s : List ℕ) : Type 0 where
   pub stage : p .stage ≡ ChallengeResponseSent
@@ -78,16 +77,19 @@ AnyTailTaken =
     (pick (same digits (rightDigits p)) (outcome 0 (successResponse i) (answered SuccessResponseSent q (successResponse i) p))
     (outcome 3 [] (staged Failed p)))
 
--- one of the calls brought it
-abbrev pub SomeConfirms : Peer → List Call → Type 0
-SomeConfirms p [] = ⊥
-SomeConfirms p (c ∷ cs) = ByStep Confirms p c ⊎ SomeConfirms (callOf p c .state) cs
+-- one of the calls brought it, and was answered 0
+abbrev pub Accepts : Peer → Call → Type 0
+Accepts p c = ByStep Confirms p c × (callOf p c .number ≡ 0)
+
+abbrev pub SomeAccepts : Peer → List Call → Type 0
+SomeAccepts p [] = ⊥
+SomeAccepts p (c ∷ cs) = Accepts p c ⊎ SomeAccepts (callOf p c .state) cs
 
 -- over any calls on from a made peer p, of which c is the last: no Success Response, and no answer 2, without the right string
 abbrev pub SuccessEarned : Type 0
 SuccessEarned =
     (name hash : List ℕ) (cs : List Call) (c : Call) (p : Peer) (id : ℕ) → length hash ≡ 16 → AreCalls cs → p ≡ newOf name hash .state →
-    (callOf (after p cs) c .octets ≡ successResponse id) ⊎ (callOf (after p cs) c .number ≡ 2) → SomeConfirms p (cs ++ (c ∷ []))
+    (callOf (after p cs) c .octets ≡ successResponse id) ⊎ (callOf (after p cs) c .number ≡ 2) → SomeAccepts p (cs ++ (c ∷ []))
 
 -- ---- 3. The repeat rule
 -- a whole packet that is a Request
@@ -221,11 +223,41 @@ RetryAnswersC =
     readPacket end.Peer s ≡ gives k → stepOf p s random room .number ≡ 1 →
     NoNewAnswers (stepOf p s random room .state) cs → p′ ≡ after (stepOf p s random room .state) cs → length name ≤ maxName →
     w ≡ responseTo (k .id .0) (k .chapid .0) (renewedIn k (take (k .length) s)) own name hash →
-    supplyOf p′ name hash own room′ ≡ fitting room′ p′ (outcome 0 w (supplied name hash own w p′))
+    supplyOf p′ name hash own room′ ≡ fitting room′ p′ (outcome 0 w (supplied name hash own (k .chapid) w p′))
 
 -- ---- 9. The random octets are "used only as the peer challenge of a Response made in that step"
+-- one is made exactly where a packet is answered 0 in BEGIN
+abbrev pub MakesResponse : Peer → List ℕ → List ℕ → ℕ → Type 0
+MakesResponse p s random room = (p .stage ≡ Begin) × (stepOf p s random room .number ≡ 0)
+
+-- the packet is a Challenge, and the whole outcome its Response, of which they are the peer challenge
+pub record Responds (p : Peer) (s random : List ℕ) (room : ℕ) : Type 0 where
+  pub packet : Packet
+  pub reads : readPacket end.Peer s ≡ gives packet
+  pub challenge : packet .kind ≡ kind.Challenge
+  pub is : stepOf p s random room ≡ responding p packet (take (packet .length) s) random
+
 abbrev pub RandomOnlyInResponse : Type 0
 RandomOnlyInResponse =
-    (p : Peer) (s random : List ℕ) (room : ℕ) → length random ≡ 16 →
-    ((p .stage ≡ Begin → ⊥) → (other : List ℕ) → stepOf p s random room ≡ stepOf p s other room)
-    × (p .stage ≡ Begin → stepOf p s random room .number ≡ 0 → at (stepOf p s random room .octets) challengePlace ≡ random)
+    (p : Peer) (s random other : List ℕ) (room : ℕ) → length random ≡ 16 → length other ≡ 16 →
+    (stepOf p s random room .number ≡ stepOf p s other room .number)
+    × ((MakesResponse p s random room → ⊥) → stepOf p s random room ≡ stepOf p s other room)
+    × (MakesResponse p s random room → Responds p s random room)
+
+-- a supply that is answered 0 makes one
+abbrev pub RandomOnlyInSupply : Type 0
+RandomOnlyInSupply =
+    (p : Peer) (name hash random other : List ℕ) (room : ℕ) → length random ≡ 16 → length other ≡ 16 →
+    (supplyOf p name hash random room .number ≡ supplyOf p name hash other room .number)
+    × ((supplyOf p name hash random room .number ≡ 0 → ⊥) → supplyOf p name hash random room ≡ supplyOf p name hash other room)
+    × (supplyOf p name hash random room .number ≡ 0 → supplyOf p name hash random room ≡ supplying p name hash random)
+
+-- ---- 10. A reply buffer of `REPLY_ROOM` is always enough: no call that has it is answered 20. It holds of every value of the struct, so of every
+-- state that can be handed in, whatever its lengths say
+abbrev pub HasRoom : Call → Type 0
+HasRoom (step s random room) = replyRoom ≤ room
+HasRoom (supply name hash random room) = replyRoom ≤ room
+HasRoom giveUp = Unit {0}
+
+abbrev pub RoomEnough : Type 0
+RoomEnough = (p : Peer) (c : Call) → IsPeer p → IsCall c → HasRoom c → callOf p c .number ≡ 20 → ⊥

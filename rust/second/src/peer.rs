@@ -181,10 +181,20 @@ impl Peer {
         Ok(())
     }
 
-    /// Octet 1 of the last request, 0 where there is none.
+    /// The last request's Identifier, which is its octet 1.
     fn last_identifier(&self) -> Identifier {
+        Identifier(self.request_octet(1))
+    }
+
+    /// The last request's MS-CHAPv2-ID, which is its octet 6.
+    fn last_chapid(&self) -> ChapId {
+        ChapId(self.request_octet(6))
+    }
+
+    /// An octet of the last request, 0 where there is none.
+    fn request_octet(&self, at: usize) -> u8 {
         let request = held(&self.request, self.request_len);
-        Identifier(request.get(1).copied().unwrap_or(0))
+        request.get(at).copied().unwrap_or(0)
     }
 
     fn respond(
@@ -223,17 +233,13 @@ impl Peer {
             password_hash,
         };
         let challenge = &self.authenticator_challenge;
-        let n = credentials.write(
-            self.last_identifier(),
-            self.chapid,
-            challenge,
-            random,
-            reply,
-        )?;
+        let (id, chapid) = (self.last_identifier(), self.last_chapid());
+        let n = credentials.write(id, chapid, challenge, random, reply)?;
         self.stage = ChallengeResponseSent;
         hold(&mut self.name, &mut self.name_len, name);
         self.password_hash = *password_hash;
         self.peer_challenge = *random;
+        self.chapid = chapid;
         hold(&mut self.reply, &mut self.reply_len, &reply[..n]);
         Ok((REPLY, n))
     }
@@ -246,11 +252,10 @@ impl Peer {
         (REPLY, reply.len())
     }
 
-    /// Keeps the request, its MS-CHAPv2-ID and C. The old reply stays.
+    /// Keeps the request and C. All else stays.
     fn wait(&mut self, packet: &Packet, octets: &[u8]) -> Numbered {
         self.stage = Waiting;
         self.authenticator_challenge = packet.challenge;
-        self.chapid = packet.chapid;
         hold(&mut self.request, &mut self.request_len, octets);
         (NEEDS_CREDENTIALS, 0)
     }

@@ -257,7 +257,6 @@ fn waiting_keeps_the_request_and_c() {
     let waiting = Peer {
         stage: Waiting,
         authenticator_challenge: FRESH,
-        chapid: ChapId(33),
         request: padded(&packet),
         request_len: packet.len() as u16,
         ..before
@@ -285,6 +284,7 @@ fn waiting_keeps_the_request_and_c() {
         name_len: 5,
         password_hash: HASH,
         peer_challenge: RANDOM,
+        chapid: ChapId(33),
         reply: padded(&expected),
         reply_len: 64,
         ..waiting
@@ -495,8 +495,8 @@ fn lengths_past_their_arrays() {
 }
 
 #[test]
-fn requests_too_short_for_an_identifier() {
-    for length in [0, 1, 2] {
+fn requests_too_short_for_their_numbers() {
+    for length in [0, 1, 2, 6, 7] {
         let mut peer = made(ChallengeResponseSent);
         peer.request_len = length;
         let last = if length < 2 { 0 } else { 7 };
@@ -511,8 +511,10 @@ fn requests_too_short_for_an_identifier() {
         let mut waiting = made(Waiting);
         waiting.request_len = length;
         let id = if length < 2 { 0 } else { 8 };
-        let expected = expected_response(id, 33, &FRESH, b"n");
+        let chapid = if length < 7 { 0 } else { 33 };
+        let expected = expected_response(id, chapid, &FRESH, b"n");
         assert_eq!(supply_in(&mut waiting, b"n", &HASH, ROOM), (0, expected));
+        assert_eq!(waiting.chapid, ChapId(chapid));
     }
     // A stored request that only begins with the packet is another one.
     let mut longer = made(ChallengeResponseSent);

@@ -11,6 +11,7 @@ resume-spec =
     (λ c κs. search needs)
     (λ c κs. search needs)
     (λ c κs. search needs)
+    (λ c κs. search needs)
     (λ c κs. search (needs, cut-short, response-short))
     (λ c. search needs)
     (λ c. search (needs, resume-so)))
