@@ -1,4 +1,5 @@
 pub mod Laws
+pub mod Answers
 pub mod Carry
 pub mod ServerRuns
 pub mod PeerRuns

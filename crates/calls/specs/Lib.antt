@@ -2,3 +2,4 @@ pub mod Done
 pub mod Ends
 pub mod Stateless
 pub mod Run
+pub mod Promises

@@ -1,0 +1,75 @@
+-- 01, "What a call answers", of every call at the boundary: it answers a number of the list, and a refusal changes nothing.
+use Prim.Native.Nat.{ℕ, _+_, _*_, _/_, _%_, _≤_, _<_}
+use mathlib.Core.Path.{_≡_}
+use mathlib.Core.List.{List, []}
+use mathlib.Core.Bool.{true, _&&_}
+use mathlib.Core.Logic.{_⊎_}
+use lib.ListN.{length, replicate}
+use Rattle.octets.specs.Lists.{over}
+use Rattle.answer.specs.Promises.{IsRefusal}
+use Rattle.answer.specs.Sizes.{maxName}
+use Rattle.accounts.specs.Accounts.{checkNumber}
+use Rattle.peer.specs.declared.Stage.the-variants.{Failed}
+use Rattle.peer.specs.State.{initial}
+use Rattle.peer.specs.declared.Peer.{Peer}
+use Rattle.server.specs.declared.Server.{Server}
+use Rattle.state.specs.PeerOctets.{peerOf, octetsOfPeer}
+use Rattle.state.specs.ServerOctets.{serverOf}
+use Rattle.state.specs.Promises.{IsPeerState, IsServerState}
+use Rattle.calls.specs.Done.{wordOf, Done, done, Made, made}
+use Rattle.calls.specs.Ends.{isPeer, isSixteen}
+use Rattle.calls.specs.Run.{PeerCall, makes, steps, supplies, givesUp, peerReply, peerCallAt, peerCall, ServerCall, serverReply, serverCallAt, serverCall}
+use Rattle.calls.specs.Stateless.{readAt, md4At, sha1At, passwordHashAt, desAt, ntResponseAt, authenticatorAt}
+
+-- ---- number and n can be read back from a word, and no bit is set above them
+pub record WordBack : Type 0 where
+  pub number : (k n : ℕ) → k < 256 → wordOf k n % 256 ≡ k
+  pub n : (k n : ℕ) → k < 256 → n < 16777216 → wordOf k n / 256 ≡ n
+  pub small : (k n : ℕ) → k < 256 → wordOf k n < 4294967296
+
+-- ---- what a call on the octets s of a state, with the reply buffer b, can do: slices of every size
+pub data AnswersAt (s b : List ℕ) : Done → Type 0 where
+  answers : (k : ℕ) (q s′ : List ℕ) → k ≤ 3 → length q ≤ length b → length s′ ≡ length s → AnswersAt s b (done (wordOf k (length q)) s′ (over q b))
+  -- "Numbers from 10 up change no state and no lent octet, and n = 0."
+  refuses : (k : ℕ) → IsRefusal k → AnswersAt s b (done (wordOf k 0) s b)
+
+-- "23 and a FAILED peer, all else zero": the one refusal that writes a state
+abbrev pub MakesFailed : List ℕ → PeerCall → Type 0
+MakesFailed s (makes name hash) =
+    ((isPeer s && isSixteen hash) ≡ true) × (maxName < length name) × (peerCallAt s (makes name hash) ≡ done (wordOf 23 0) (octetsOfPeer (initial Failed [] (replicate 16 0))) [])
+MakesFailed s (steps packet random reply) = ⊥
+MakesFailed s (supplies name hash random reply) = ⊥
+MakesFailed s givesUp = ⊥
+
+abbrev pub PeerAnswersAt : Type 0
+PeerAnswersAt = (s : List ℕ) (c : PeerCall) → AnswersAt s (peerReply c) (peerCallAt s c) ⊎ MakesFailed s c
+
+abbrev pub ServerAnswersAt : Type 0
+ServerAnswersAt = (s : List ℕ) (c : ServerCall (List ℕ)) → AnswersAt s (serverReply c) (serverCallAt s c)
+
+-- ---- "state unchanged" holds of the octets: where the call leaves the state that they stand for, it leaves the octets
+abbrev pub PeerStays : Type 0
+PeerStays = (s : List ℕ) (c : PeerCall) → IsPeerState s → peerCall (peerOf s) c .state ≡ peerOf s → peerCallAt s c .state ≡ s
+
+abbrev pub ServerStays : Type 0
+ServerStays = (s : List ℕ) (c : ServerCall (List ℕ)) → IsServerState s → serverCall (serverOf s) c .state ≡ serverOf s → serverCallAt s c .state ≡ s
+
+-- ---- calls without a state: 0, or a number of the list
+pub data NumberAt : ℕ → Type 0 where
+  good : NumberAt (wordOf 0 0)
+  refusal : (k : ℕ) → IsRefusal k → NumberAt (wordOf k 0)
+
+-- and 0 with a result over the output, or a refusal that leaves it
+pub data MakesAt (out : List ℕ) : Made → Type 0 where
+  gives : (q : List ℕ) → MakesAt out (made (wordOf 0 0) q)
+  refuses : (k : ℕ) → IsRefusal k → MakesAt out (made (wordOf k 0) out)
+
+pub record StatelessAnswer : Type 0 where
+  pub read : (end : ℕ) (packet : List ℕ) → NumberAt (readAt end packet)
+  pub check : (table : List ℕ) → NumberAt (wordOf (checkNumber table) 0)
+  pub md4 : (message out : List ℕ) → MakesAt out (md4At message out)
+  pub sha1 : (message out : List ℕ) → MakesAt out (sha1At message out)
+  pub password-hash : (units out : List ℕ) → MakesAt out (passwordHashAt units out)
+  pub des : (key block out : List ℕ) → MakesAt out (desAt key block out)
+  pub nt-response : (authenticator peer user hash out : List ℕ) → MakesAt out (ntResponseAt authenticator peer user hash out)
+  pub authenticator : (hash response peer challenge user out : List ℕ) → MakesAt out (authenticatorAt hash response peer challenge user out)
