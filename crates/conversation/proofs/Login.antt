@@ -13,7 +13,7 @@ use Rattle.packet.proofs.Sizes.{length-challengePacket}
 use Rattle.peer.specs.declared.Peer.{Peer}
 use Rattle.peer.specs.declared.Stage.the-variants as peer-stage
 use Rattle.peer.specs.State as peer
-use Rattle.peer.specs.State.{ownName, lastRequest, lastId, lastChapId, responseTo, digitsTo, rightDigits}
+use Rattle.peer.specs.State.{ownName, lastRequest, lastId, responseTo, digitsTo, rightDigits}
 use Rattle.peer.specs.Calls.{stepOf}
 use Rattle.server.specs.declared.Server.{Server}
 use Rattle.server.specs.State as server

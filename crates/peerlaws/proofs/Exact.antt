@@ -4,7 +4,7 @@ use mathlib.Core.Path.{_≡_, refl, sym, ap, subst, _∙_}
 use mathlib.Core.List.{List, []}
 use mathlib.Core.Bool.{Bool, true, false, not, _||_}
 use native.Mathlib.Omega.{arith}
-use lib.ListN.{length, take, replicate}
+use lib.ListN.{length, take}
 use lib.Dec.{eqb, ltb}
 use borrow.Author.Tests.{eqb-true, eq-eqb, ne-eqb, ltb-true, ltb-false, lt-ltb, le-ltb, not-false}
 use Rattle.octets.specs.Choice.{pick}
@@ -25,10 +25,10 @@ use Rattle.packet.proofs.Readings.{ReadOrRefused, none, some, read-or-refused}
 use Rattle.peer.specs.declared.Stage.{Stage}
 use Rattle.peer.specs.declared.Stage.the-variants.{Begin, ChallengeResponseSent, SuccessResponseSent, FailureResponseSent, Waiting, Success, Failed}
 use Rattle.peer.specs.declared.Peer.{Peer}
-use Rattle.peer.specs.State.{lastRequest, lastReply, lastId, rightDigits, initial, staged}
+use Rattle.peer.specs.State.{lastRequest, lastId, rightDigits, staged}
 use Rattle.peer.specs.Moves.{takes, moveOf, sent, waiting, repeats, misnumbered, turnOf}
 use Rattle.peer.specs.Calls.{newOf, digitsIn, confirmation, answerOf, nextOf, leftBy, leaving, movedOf, turnIn, takenOf, readOf, stepOf, resumeOf, supplyOf, giveUpOf}
-use Rattle.peerlaws.specs.Exact.{Exactly, Repeats, Misnumbered, another-request, other-end, Row, challenge, right-string, other-string, no-retry, retry, eap-success, eap-failure, Steps, unread, repeat, not-taken, wrong-identifier, taken, StepExact, supplying, Supplies, SupplyExact, GivesUp, GiveUpExact, Makes, NewExact}
+use Rattle.peerlaws.specs.Exact.{Repeats, Misnumbered, another-request, other-end, Row, challenge, right-string, other-string, no-retry, retry, eap-success, eap-failure, Steps, unread, repeat, not-taken, wrong-identifier, taken, StepExact, Supplies, SupplyExact, GivesUp, GiveUpExact, Makes, NewExact}
 use Rattle.peerlaws.specs.Exact as exact
 use Rattle.peerlaws.proofs.Forward.{turned, moved-on, right-or-other, repeated, resumes-so}
 

@@ -21,7 +21,7 @@ use Rattle.packet.specs.declared.Kind.the-variants.{Challenge, Response, Succes
 use Rattle.packet.specs.declared.Packet.{Packet}
 use Rattle.packet.specs.Forms.{successResponse, failureResponse}
 use Rattle.packet.specs.Kinds.{isRequest}
-use Rattle.packet.specs.Reader.{readPacket, challengeIn}
+use Rattle.packet.specs.Reader.{readPacket}
 use Rattle.packet.specs.Promises.{successReading}
 use Rattle.packet.proofs.Sizes.{length-success}
 use Rattle.packet.proofs.Back.{tail-size, success-back}
@@ -29,7 +29,7 @@ use Rattle.packet.proofs.Readings.{Shape, tells, read-id}
 use Rattle.peer.specs.declared.Peer.{Peer}
 use Rattle.peer.specs.declared.Stage.{Stage}
 use Rattle.peer.specs.declared.Stage.the-variants.{Begin, ChallengeResponseSent, SuccessResponseSent, FailureResponseSent, Waiting, Success, Failed}
-use Rattle.peer.specs.State.{ownName, lastRequest, lastReply, lastId, lastChapId, responseTo, rightDigits, initial, staged, answered, responded, awaiting, supplied}
+use Rattle.peer.specs.State.{lastRequest, lastReply, lastId, rightDigits, initial, staged, answered, awaiting}
 use Rattle.peer.specs.Moves.{takes, moveOf, sent, waiting, repeats, misnumbered, turnOf}
 use Rattle.peer.specs.Calls.{newOf, renewedIn, digitsIn, says, writes, confirmation, answerOf, nextOf, leftBy, leaving, movedOf, turnIn, takenOf, readOf, stepOf, responseBy, resumeOf, supplyOf}
 use Rattle.peerlaws.specs.Exact.{responseIn, responding, supplying}

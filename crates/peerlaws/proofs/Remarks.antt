@@ -3,7 +3,7 @@ use Prim.Native.Nat.{ℕ, _≤_}
 use mathlib.Core.Path.{_≡_, refl, sym, ap, _∙_}
 use mathlib.Core.List.{List, []}
 use native.Mathlib.Omega.{arith}
-use lib.ListN.{length, getD, take, replicate, length-replicate}
+use lib.ListN.{length, getD, replicate}
 use Rattle.octets.proofs.Lists.{take-sized}
 use Rattle.answer.specs.Outcome.{Outcome}
 use Rattle.answer.specs.Sizes.{maxPacket}
