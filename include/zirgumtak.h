@@ -108,7 +108,7 @@ extern "C" {
  *
  *    offset  octets  field
  *         0       1  stage
- *         1       1  MS-CHAPv2-ID that a Response copies
+ *         1       1  MS-CHAPv2-ID of the last Response
  *         2       2  length of the name
  *         4       2  length of the request
  *         6       2  length of the reply
@@ -117,7 +117,7 @@ extern "C" {
  *        40      16  peer challenge
  *        56     256  name
  *       312    1020  last answered request (ZT_PEER_WAITING: the Failure Request to be answered)
- *      1332     315  the reply to it
+ *      1332     315  last reply, to that request (ZT_PEER_WAITING: to the one before it)
  */
 #define ZT_STAGE(state) ((state)[0])
 
@@ -224,8 +224,8 @@ uint64_t zt_server_resend(uint8_t *state, size_t state_len,
  * Without a state. Each answers 0 with n = 0, or a refusal.
  */
 
-/* Whether a packet can be read by an end: 0 is the peer, 1 the server, and another end is 23.
- * Refusals: 10 to 17. */
+/* Whether a packet can be read by an end: 0 is the peer, 1 the server. Refusals: 10 to 17; for
+ * another end 10 to 12, and then 23. */
 uint64_t zt_read(uint8_t end, const uint8_t *packet, size_t packet_len);
 
 /* Whether an account table is well formed. Refusal: 21.

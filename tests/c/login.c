@@ -183,6 +183,7 @@ static void without_a_state(void)
     ANSWERS(zt_read(0, eap_success, sizeof eap_success), 0, 0);
     ANSWERS(zt_read(1, eap_success, sizeof eap_success), ZT_BAD_CODE, 0);
     ANSWERS(zt_read(2, eap_success, sizeof eap_success), ZT_BAD_ARGUMENT, 0);
+    ANSWERS(zt_read(2, eap_success, 3), ZT_SHORT, 0);
     ANSWERS(zt_accounts_check(TABLE, sizeof TABLE), 0, 0);
     ANSWERS(zt_accounts_check(TABLE, sizeof TABLE - 1), ZT_BAD_TABLE, 0);
 }

@@ -21,11 +21,11 @@ pub record Done : Type 0 where
 abbrev pub done : ℕ → List ℕ → List ℕ → Done
 done word state reply = record { word = word; state = state; reply = reply }
 
--- a slice of the wrong size where a fixed size is due: 23, "and nothing changes"
+-- a slice of the wrong size where a fixed size is due: 23, and nothing changes
 abbrev pub unsized : List ℕ → List ℕ → Done
 unsized state reply = done 23 state reply
 
--- what an end did, from those octets on. "On a refusal no octet of the state is written": from number 10 up
+-- what an end did, from those octets on. "Numbers from 10 up change no state": no octet of it is written
 unfoldable pub ended : {S : Type 0} → (S → List ℕ) → Outcome S → List ℕ → List ℕ → Done
 ended octetsOf o state reply =
     done (wordOf (o .number) (length (o .octets))) (pick (ltb (o .number) 10) (octetsOf (o .state)) state) (over (o .octets) reply)
@@ -43,7 +43,7 @@ pub record Made : Type 0 where
 abbrev pub made : ℕ → List ℕ → Made
 made word output = record { word = word; output = output }
 
--- "Stateless calls that refuse write nothing"
+-- a refusal writes nothing
 unfoldable pub given : ℕ → List ℕ → List ℕ → Made
 given number q output = made (wordOf number 0) (pick (ltb number 10) q output)
 

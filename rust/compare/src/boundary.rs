@@ -112,8 +112,9 @@ pub fn server_resend(state: &mut [u8], reply: &mut [u8]) -> Told {
     on_server(sized_mut(state)?, |server| server.resend(reply))
 }
 
-/// End 0 is the peer, 1 the server; another is 23.
+/// End 0 is the peer, 1 the server; another is 23, after 10 to 12, which are the same for both ends.
 pub fn read(end: u8, lent: &[u8]) -> Told {
+    packet::framed(lent)?;
     let end = match end {
         0 => End::Peer,
         1 => End::Server,

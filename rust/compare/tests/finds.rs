@@ -182,3 +182,12 @@ fn padding_taken_for_a_tail() {
     });
     assert!(found.expect("a difference").contains("zt_read"));
 }
+
+#[test]
+fn another_end_before_the_frame() {
+    let found = difference(|call, state, out| match call {
+        Call::Read { end: 2.., .. } => 23,
+        _ => by_second(call, state, out),
+    });
+    assert!(found.expect("a difference").contains("zt_read"));
+}

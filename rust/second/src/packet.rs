@@ -86,7 +86,7 @@ pub fn read(end: End, lent: &[u8]) -> Result<Packet, u8> {
 }
 
 /// The octets up to L, or 10 to 12.
-fn framed(lent: &[u8]) -> Result<&[u8], u8> {
+pub fn framed(lent: &[u8]) -> Result<&[u8], u8> {
     if lent.len() < HEADER {
         return Err(NO_HEADER);
     }

@@ -33,9 +33,9 @@ struct Moment {
 }
 
 impl Moment {
-    /// Both ends read the packet, and the end takes it.
+    /// Both ends read the packet, and one that is no end, and the end takes it.
     fn take(&self, pair: &mut Pair, packet: &[u8]) -> Run<Vec<u8>> {
-        for end in [0, 1] {
+        for end in [0, 1, 2] {
             pair.run(Call::Read { end, packet }, &mut [], &mut [])?;
         }
         let call = match self.end {
