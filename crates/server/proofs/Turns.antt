@@ -28,10 +28,6 @@ module _ {s : Server} {p : List ℕ} {g : Stage} {k : Packet} (t : Taken s p g k
       ap (λ (u : Told Packet). told (turnRefusal s u) noPacket (u .value)) (t .reads)
       ∙ sym (check-taken s k (ap (λ (h : Stage). takes h (k .kind)) (t .stage) ∙ t .kind) (t .numbered))
 
-  pub taken-id : k .id .0 ≡ s .request .id .0
-  unfolding misnumbered
-  taken-id = tested (eqb (k .id .0) (s .request .id .0)) (λ e. eqb-true _ _ e) (λ e. clash (t .numbered) (or-first _ _ (ap not e)))
-
   pub taken-octet : k .id .0 ≡ getD p 1 0
   taken-octet = read-id end.Server p k (t .reads)
 
