@@ -14,14 +14,14 @@ use Rattle.answer.specs.Outcome.{Outcome, outcome}
 use Rattle.answer.specs.declared.Identifier.{Identifier}
 use Rattle.server.specs.declared.Stage.{Stage}
 use Rattle.server.specs.declared.Server.{Server}
-use Rattle.server.specs.State.{requestRoom, initial, asked, staged}
+use Rattle.server.specs.State.{requestRoom, initial, asked, staged, IsServer}
 use Rattle.answer.specs.Runs.{run}
 use Rattle.server.specs.Runs.{Call, starts, brings, resends, replyOf, outcomeOf, Answered, serverStep}
 use Rattle.server.specs.Guess.{Side, one, two, lentTo, NotRight}
-use Rattle.server.specs.Effects.{Effect, refusing, starting, granting, denying, retrying, rejecting, confirming, ending, resending}
-use Rattle.server.proofs.Effects.{effect}
+use Rattle.server.specs.Effects.{Moves, starting, granting, denying, confirming, ending, resending}
+use Rattle.server.proofs.Effects.{by-moves}
 use Rattle.server.proofs.WrongGuess.{wrong-guess}
-use Rattle.state.specs.ServerOctets.{serverOctets, serverOf, octetsOfServer, IsServer}
+use Rattle.state.specs.ServerOctets.{serverOctets, serverOf, octetsOfServer}
 use Rattle.state.proofs.Trips.{server-back, is-server, length-octets-of-server}
 use Rattle.calls.specs.Done.{wordOf, Done, done, unsized, ended}
 use Rattle.calls.specs.Ends.{isServer, isSixteen, serverNewAt, serverStartAt, serverPacketAt, serverResendAt}
@@ -37,21 +37,21 @@ is-staged : (stage : Stage) (s : Server) → IsServer s → IsServer (staged sta
 unfolding staged
 is-staged stage s z = record { challenge = z .challenge; request = z .request }
 
-proper : (s : Server) {c : Call (List ℕ)} {o : Outcome Server} → Effect s c o → areSixteen c ≡ true → IsServer s → Proper IsServer s o
-proper s (refusing k l) e z = record { is = z; still = λ h. refl }
-proper s (starting b f) e z = record { is = is-asked _ _ _ _ _ s (eqb-true _ _ e); still = λ h. absurd (omega arith) }
-proper s (granting t v) e z = record { is = is-asked _ _ _ _ _ s (z .challenge); still = λ h. absurd (omega arith) }
-proper s (denying k t v n d) e z = record { is = is-asked _ _ _ _ _ s (eqb-true _ _ e); still = λ h. absurd (omega arith) }
-proper s (retrying v n d) e z = record { is = is-asked _ _ _ _ _ s (eqb-true _ _ e); still = λ h. absurd (omega arith) }
-proper s (rejecting v n d) e z = record { is = is-asked _ _ _ _ _ s (eqb-true _ _ e); still = λ h. absurd (omega arith) }
-proper s (confirming k t) e z = record { is = is-staged _ s z; still = λ h. absurd (omega arith) }
-proper s (ending k t) e z = record { is = is-staged _ s z; still = λ h. absurd (omega arith) }
-proper s (resending b) e z = record { is = z; still = λ h. refl }
+proper : (s : Server) (c : Call (List ℕ)) → areSixteen c ≡ true → IsServer s → Proper IsServer s (outcomeOf s c)
+proper s c e z = by-moves (Proper IsServer s) s c (λ k l. record { is = z; still = λ h. refl }) (λ o m. go m e)
+  where
+    go : {c : Call (List ℕ)} {o : Outcome Server} → Moves s c o → areSixteen c ≡ true → Proper IsServer s o
+    go (starting b f) e = record { is = is-asked _ _ _ _ _ s (eqb-true _ _ e); still = λ h. absurd (omega arith) }
+    go (granting t v) e = record { is = is-asked _ _ _ _ _ s (z .challenge); still = λ h. absurd (omega arith) }
+    go (denying v f x d n) e = record { is = is-asked _ _ _ _ _ s (eqb-true _ _ e); still = λ h. absurd (omega arith) }
+    go (confirming x t) e = record { is = is-staged _ s z; still = λ h. absurd (omega arith) }
+    go (ending x t) e = record { is = is-staged _ s z; still = λ h. absurd (omega arith) }
+    go (resending b) e = record { is = z; still = λ h. refl }
 
 -- ---- what a call shows
 server-ended : (c : Call (List ℕ)) (s : List ℕ) → length s ≡ serverOctets → areSixteen c ≡ true → Shows serverOf serverOctets (ended octetsOfServer (outcomeOf (serverOf s) c) s (replyOf c)) (outcomeOf (serverOf s) c) (replyOf c)
 server-ended c s h e =
-    ended-shows octetsOfServer serverOf IsServer serverOctets server-back length-octets-of-server _ s (replyOf c) h (proper (serverOf s) (effect (serverOf s) c) e (is-server s))
+    ended-shows octetsOfServer serverOf IsServer serverOctets server-back length-octets-of-server _ s (replyOf c) h (proper (serverOf s) c e (is-server s))
 
 is-initial : IsServer initial
 unfolding initial

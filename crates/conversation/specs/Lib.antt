@@ -1,3 +1,4 @@
 pub mod Calls
 pub mod Login
 pub mod Tries
+pub mod Premises

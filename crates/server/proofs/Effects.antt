@@ -1,30 +1,39 @@
--- Every call does one of the effects of specs/Effects.
-use Prim.Native.Nat.{ℕ}
+-- Every call does what specs/Effects says, and nothing else.
+use Prim.Native.Nat.{ℕ, _≤_}
 use mathlib.Core.Path.{_≡_, refl, sym, ap, _∙_}
-use mathlib.Core.Bool.{true, not}
+use mathlib.Core.Bool.{Bool, true, false, not}
 use mathlib.Core.List.{List}
 use native.Mathlib.Omega.{arith}
 use lib.ListN.{length}
 use lib.Dec.{eqb, ltb}
-use borrow.Author.Tests.{eqb-true, eqb-false, not-false}
+use borrow.Author.Tests.{ltb-true, ltb-false, le-ltb, eqb-true, eqb-false, eq-eqb, ne-eqb}
 use Rattle.octets.specs.Octets.{same}
-use Rattle.octets.proofs.Exits.{arms, picked, clash}
-use Rattle.octets.proofs.Scans.{same-refl}
-use Rattle.answer.specs.Outcome.{gives, Outcome, fitting}
-use Rattle.answer.specs.declared.Identifier.{Identifier}
+use Rattle.octets.proofs.Exits.{pick-true, pick-false, picked, clash, tested, passed}
+use Rattle.octets.proofs.Scans.{same-refl, same-true}
+use Rattle.answer.specs.Outcome.{Outcome, refused, fitting}
+use Rattle.answer.specs.Sizes.{maxName, maxRetries}
+use Rattle.answer.proofs.Outcomes.{fitting-so, fitting-not}
 use Rattle.packet.specs.declared.Packet.{Packet}
-use Rattle.verdict.specs.Verdict.{wrong, right, judgeOf}
-use Rattle.verdict.proofs.Rightness.{judge-cases}
+use Rattle.packet.specs.Reader.{challengeIn}
+use Rattle.mschap.specs.Users.{userOf}
+use Rattle.verdict.specs.declared.Verdict.{Verdict}
+use Rattle.verdict.specs.Verdict.{badTable, wrong, right, judgeOf}
+use Rattle.verdict.specs.Promises.{Judges, judges-malformed, judges-wrong, judges-right}
+use Rattle.verdict.proofs.Rightness.{judges, judge-malformed}
+use Rattle.server.specs.declared.Due.{Due}
+use Rattle.server.specs.declared.Due.the-variants as due
 use Rattle.server.specs.declared.Failure.{Failure}
 use Rattle.server.specs.declared.Stage.{Stage}
 use Rattle.server.specs.declared.Stage.the-variants.{Begin, ChallengeSent, SuccessRequestSent, FailureRequestSent, Success, Failed}
 use Rattle.server.specs.declared.Server.{Server}
-use Rattle.server.specs.Moves.{begins, sent, turnOf, Taken}
-use Rattle.server.specs.Calls.{failing, startFits, startOf, dueOf, failOf, actOf, verdictOf, judgedBy, takenBy, packetOf, resendOf}
-use Rattle.server.specs.Runs.{Call, starts, brings, resends, outcomeOf}
-use Rattle.server.specs.Effects.{Verdicts, Effect, refusing, starting, granting, denying, retrying, rejecting, confirming, ending, resending}
-use Rattle.server.proofs.Turns.{packet-cases}
+use Rattle.server.specs.Moves.{begins, sent, Taken}
+use Rattle.server.specs.Calls.{startFits, startOf, dueOf, failOf, actOf, ntResponseOf, responseName, verdictOf, judgedBy, takenBy, packetOf, resendOf}
+use Rattle.server.specs.Runs.{Call, starts, brings, resends, replyOf, outcomeOf}
+use Rattle.server.specs.Effects.{StartFits, Verdicts, Denies, barred, again, last, Refuses, begun, misfit, unread, untaken, misnumbering, malformed, stale, unsent, Moves, starting, granting, denying, confirming, ending, resending, Effect, refuses, no-room, moves, EffectsExact}
+use Rattle.server.proofs.Turns.{turn-cases, packet-unread, packet-untaken, packet-unnumbered}
+use Rattle.server.proofs.Forward.{taken-by}
 
+-- ---- a start's stage and arguments
 begins-so : (g : Stage) → begins g ≡ true → g ≡ Begin
 begins-so Begin e = refl
 begins-so ChallengeSent e = clash refl e
@@ -33,73 +42,148 @@ begins-so FailureRequestSent e = clash refl e
 begins-so Success e = clash refl e
 begins-so Failed e = clash refl e
 
+module _ (name : List ℕ) (retries : ℕ) where
+  fits-so : startFits (length name) retries ≡ true → StartFits name retries
+  unfolding startFits
+  fits-so e =
+      let a = passed (eqb (length name) 0) _ e in
+      let b = passed (ltb maxName (length name)) _ (a .1) in
+      let c = passed (ltb maxRetries retries) _ (b .1) in
+      record { some = omega (arith, eqb-false (length name) 0 (a .0)); few = ltb-false _ _ (b .0); count = ltb-false _ _ (c .0) }
+
+  pub so-fits : StartFits name retries → startFits (length name) retries ≡ true
+  unfolding startFits
+  so-fits f =
+      let n : length name ≡ 0 → ⊥ = λ z. omega (arith, f .some) in
+      pick-false _ _ _ (ne-eqb _ _ n) ∙ pick-false _ _ _ (le-ltb _ _ (f .few)) ∙ pick-false _ _ _ (le-ltb _ _ (f .count))
+
+-- a test that does not hold
+failed : (b : Bool) → (b ≡ true → ⊥) → b ≡ false
+failed b f = tested b (λ e. absurd (f e)) (λ e. e)
+
 module _ (s : Server) where
-  -- number 20
-  fitted : {c : Call (List ℕ)} (room : ℕ) (o : Outcome Server) → Effect s c o → Effect s c (fitting room s o)
+  -- ---- what each case comes to
+  due-so : {v : Verdict} {f : Failure} → Denies s v f → dueOf (v .mark) (v .code) s ≡ due.Failure f
+  unfolding dueOf
+  due-so (barred code string n) = pick-false _ _ _ (ne-eqb code 0 n)
+  due-so (again n) = pick-false _ _ _ (ne-eqb (s .retries) 0 n)
+  due-so (last e) = pick-true _ _ _ (eq-eqb (s .retries) 0 e)
+
+  module _ {packet table : List ℕ} (fresh : List ℕ) (room : ℕ) where
+    judged-so : (v : Verdict) → Verdicts s packet table v → packetOf s packet table fresh room ≡ judgedBy v s fresh room
+    unfolding takenBy
+    judged-so v x =
+        taken-by s packet table fresh room (x .response) ChallengeSent (x .taken) ∙ ap (λ (u : Verdict). judgedBy u s fresh room) (x .is)
+
+    denied-so : (v : Verdict) (f : Failure) → Verdicts s packet table v → Denies s v f → packetOf s packet table fresh room ≡ failOf f s fresh room
+    unfolding judgedBy actOf
+    denied-so v f x d = judged-so v x ∙ ap (λ (u : Due). actOf u s (v .string) fresh room) (due-so d)
+
+  refuses-so : {c : Call (List ℕ)} {k : ℕ} → Refuses s c k → outcomeOf s c ≡ refused k s
+  unfolding startOf resendOf judgedBy dueOf actOf failOf verdictOf judgeOf
+  refuses-so (begun n) = pick-true _ _ _ (ap not (failed (begins (s .stage)) (λ e. n (begins-so (s .stage) e))))
+  refuses-so (misfit {name = name} {retries = retries} b n) =
+      pick-false _ _ _ (ap (λ (g : Stage). not (begins g)) b) ∙ pick-true _ _ _ (ap not (failed (startFits (length name) retries) (λ e. n (fits-so name retries e))))
+  refuses-so (unread {packet} {table} {fresh} {reply} k h e) = packet-unread s packet table fresh (length reply) k h e
+  refuses-so (untaken {packet} {table} {fresh} {reply} x e t) = packet-untaken s packet table fresh (length reply) x e t
+  refuses-so (misnumbering {packet} {table} {fresh} {reply} x e t m) = packet-unnumbered s packet table fresh (length reply) x e t m
+  refuses-so (malformed {packet} {table} {fresh} {reply} x t w) =
+      judged-so fresh (length reply) badTable (record { response = x; taken = t; is = judge-malformed _ _ _ _ table w })
+  refuses-so (stale {fresh = fresh} {reply = reply} v f x d e) = denied-so fresh (length reply) v f x d ∙ pick-true _ _ _ (ap (same fresh) (sym e) ∙ same-refl fresh)
+  refuses-so (unsent e) = pick-true _ _ _ (ap not e)
+
+  moves-so : {c : Call (List ℕ)} {o : Outcome Server} → Moves s c o → outcomeOf s c ≡ fitting (length (replyOf c)) s o
+  unfolding startOf resendOf takenBy judgedBy dueOf actOf failOf
+  moves-so (starting {name = name} {retries = retries} b f) =
+      pick-false _ _ _ (ap (λ (g : Stage). not (begins g)) b) ∙ pick-false _ _ _ (ap not (so-fits name retries f))
+  moves-so (granting {fresh = fresh} {reply = reply} string v) = judged-so fresh (length reply) (right 0 string) v ∙ ap (λ (d : Due). actOf d s string fresh (length reply)) (pick-true _ _ _ refl)
+  moves-so (denying {fresh = fresh} {reply = reply} v f x d n) =
+      denied-so fresh (length reply) v f x d ∙ pick-false _ _ _ (failed (same fresh (s .request .challenge)) (λ e. n (same-true _ _ e)))
+  moves-so (confirming {packet} {table} {fresh} {reply} x t) = taken-by s packet table fresh (length reply) x SuccessRequestSent t
+  moves-so (ending {packet} {table} {fresh} {reply} x t) = taken-by s packet table fresh (length reply) x FailureRequestSent t
+  moves-so (resending e) = pick-false _ _ _ (ap not e)
+
+  -- ---- and one of them is so
+  abbrev Some : Call (List ℕ) → Type 0
+  Some c = Effect s c (outcomeOf s c)
+
+  no : {c : Call (List ℕ)} {k : ℕ} → Refuses s c k → Some c
+  no r = rw (refuses-so r) (refuses _ r)
+
+  yes : {c : Call (List ℕ)} {o : Outcome Server} → Moves s c o → Some c
   unfolding fitting
-  fitted {c} room o e = arms (Effect s c) (ltb room (length (o .octets))) (refusing 20 (omega arith)) e
-
-  start-effect : (id : Identifier) (challenge name : List ℕ) (retries : ℕ) (reply : List ℕ)
-      → Effect s (starts id challenge name retries reply) (startOf s id challenge name retries (length reply))
-  unfolding startOf
-  start-effect id challenge name retries reply =
-      picked (Effect s _) (not (begins (s .stage))) (λ e. refusing 19 (omega arith))
-      (λ e. picked (Effect s _) (not (startFits (length name) retries)) (λ f. refusing 23 (omega arith))
-      (λ f. fitted (length reply) _ (starting (begins-so (s .stage) (not-false _ e)) (not-false _ f))))
-
-  resend-effect : (reply : List ℕ) → Effect s (resends reply) (resendOf s (length reply))
-  unfolding resendOf
-  resend-effect reply =
-      picked (Effect s (resends reply)) (not (sent (s .stage))) (λ e. refusing 19 (omega arith))
-      (λ e. fitted (length reply) _ (resending (not-false _ e)))
+  yes {c} {o} m =
+      rw (moves-so m)
+      (picked (Effect s c) (ltb (length (replyOf c)) (length (o .octets))) (λ e. no-room m (ltb-true _ _ e)) (λ e. moves m (ltb-false _ _ e)))
 
   module _ (packet table fresh reply : List ℕ) where
-    abbrev Here : Outcome Server → Type 0
-    Here o = Effect s (brings packet table fresh reply) o
+    abbrev here : Call (List ℕ)
+    here = brings packet table fresh reply
 
-    -- number 22
-    fail-effect : (f : Failure) → ((fresh ≡ s .request .challenge → ⊥) → Here (failing s f fresh)) → Here (failOf f s fresh (length reply))
-    unfolding failOf
-    fail-effect f h =
-        picked Here (same fresh (s .request .challenge)) (λ e. refusing 22 (omega arith))
-        (λ e. fitted (length reply) _ (h (λ q. clash e (ap (same fresh) (sym q) ∙ same-refl fresh))))
+    denied : (v : Verdict) (f : Failure) → Verdicts s packet table v → Denies s v f → Some here
+    denied v f x d = tested (same fresh (s .request .challenge)) (λ e. no (stale v f x d (same-true _ _ e))) (λ e. yes (denying v f x d (λ q. clash e (ap (same fresh) (sym q) ∙ same-refl fresh))))
 
-    right-effect : (code : ℕ) (string : List ℕ) → Verdicts s packet table (right code string) → Here (judgedBy (right code string) s fresh (length reply))
-    unfolding judgedBy dueOf actOf
-    right-effect code string v =
-        picked (λ d. Here (actOf d s string fresh (length reply))) (eqb code 0)
-        (λ z. fitted (length reply) _ (granting string (rw (eqb-true code 0 z) at v)))
-        (λ z. fail-effect _ (denying code string v (eqb-false _ _ z)))
-
-    wrong-effect : Verdicts s packet table wrong → Here (judgedBy wrong s fresh (length reply))
-    unfolding judgedBy dueOf actOf
-    wrong-effect v =
-        picked (λ d. Here (actOf d s (wrong .string) fresh (length reply))) (eqb (s .retries) 0)
-        (λ z. fail-effect _ (rejecting v (eqb-true _ _ z)))
-        (λ z. fail-effect _ (retrying v (eqb-false _ _ z)))
-
-    judged-effect : (k : Packet) → Taken s packet ChallengeSent k → Here (judgedBy (verdictOf s k packet table) s fresh (length reply))
-    unfolding judgedBy dueOf actOf verdictOf judgeOf
-    judged-effect k t =
-        judge-cases (s .request .challenge) _ _ _ table (λ v. verdictOf s k packet table ≡ v → Here (judgedBy v s fresh (length reply)))
-        (λ e. refusing 21 (omega arith))
-        (λ e. wrong-effect (record { response = k; taken = t; is = e }))
-        (λ _ _ e. right-effect _ _ (record { response = k; taken = t; is = e }))
-        refl
-
-    packet-effect : Here (packetOf s packet table fresh (length reply))
-    unfolding takenBy
-    packet-effect = packet-cases Here s packet table fresh (length reply) (λ n h. refusing n h) (λ k e. go k e (s .stage) refl)
+    judged : (x : Packet) → Taken s packet ChallengeSent x → Some here
+    unfolding verdictOf judgeOf
+    judged x t = go (judges (s .request .challenge) (challengeIn x packet) (ntResponseOf x packet) (userOf (responseName x packet)) table) refl
       where
-        go : (k : Packet) → turnOf s packet ≡ gives k → (g : Stage) → s .stage ≡ g → Here (takenBy g k s packet table fresh (length reply))
-        go k e Begin f = refusing 19 (omega arith)
-        go k e ChallengeSent f = judged-effect k (record { turn = e; stage = f })
-        go k e SuccessRequestSent f = fitted (length reply) _ (confirming k (record { turn = e; stage = f }))
-        go k e FailureRequestSent f = fitted (length reply) _ (ending k (record { turn = e; stage = f }))
-        go k e Success f = refusing 19 (omega arith)
-        go k e Failed f = refusing 19 (omega arith)
+        go : {v : Verdict} → Judges (s .request .challenge) (challengeIn x packet) (ntResponseOf x packet) (userOf (responseName x packet)) table v → verdictOf s x packet table ≡ v → Some here
+        go (judges-malformed w) e = no (malformed x t w)
+        go (judges-wrong w h) e =
+            let v : Verdicts s packet table wrong = record { response = x; taken = t; is = e } in
+            tested (eqb (s .retries) 0) (λ z. denied _ _ v (last (eqb-true _ _ z))) (λ z. denied _ _ v (again (eqb-false _ _ z)))
+        go (judges-right w r) e = graded _ _ (record { response = x; taken = t; is = e })
+          where
+            graded : (code : ℕ) (string : List ℕ) → Verdicts s packet table (right code string) → Some here
+            graded code string v = tested (eqb code 0) (λ z. yes (granting string (rw (eqb-true code 0 z) at v))) (λ z. denied _ _ v (barred code string (eqb-false _ _ z)))
 
+    taken : (x : Packet) (g : Stage) → Taken s packet g x → Some here
+    taken x Begin t = clash refl (t .kind)
+    taken x ChallengeSent t = judged x t
+    taken x SuccessRequestSent t = yes (confirming x t)
+    taken x FailureRequestSent t = yes (ending x t)
+    taken x Success t = clash refl (t .kind)
+    taken x Failed t = clash refl (t .kind)
+
+-- ----
 pub effect : (s : Server) (c : Call (List ℕ)) → Effect s c (outcomeOf s c)
-effect s (starts id challenge name retries reply) = start-effect s id challenge name retries reply
-effect s (brings packet table fresh reply) = packet-effect s packet table fresh reply
-effect s (resends reply) = resend-effect s reply
+effect s (starts id challenge name retries reply) =
+    tested (begins (s .stage))
+    (λ b. tested (startFits (length name) retries)
+    (λ f. yes s (starting (begins-so (s .stage) b) (fits-so name retries f)))
+    (λ f. no s (misfit (begins-so (s .stage) b) (λ g. clash f (so-fits name retries g)))))
+    (λ b. no s (begun (λ e. clash b (ap begins e))))
+effect s (brings packet table fresh reply) =
+    turn-cases s packet
+    (λ k h l e. no s (unread k h e))
+    (λ x e t. no s (untaken x e t))
+    (λ x e t m. no s (misnumbering x e t m))
+    (λ x t. taken s packet table fresh reply x (s .stage) t)
+effect s (resends reply) = tested (sent (s .stage)) (λ e. yes s (resending e)) (λ e. no s (unsent e))
+
+pub effect-only : (s : Server) (c : Call (List ℕ)) (o : Outcome Server) → Effect s c o → o ≡ outcomeOf s c
+effect-only s c o (refuses k r) = sym (refuses-so s r)
+effect-only s c o (no-room m r) = sym (moves-so s m ∙ fitting-not _ s _ r)
+effect-only s c o (moves m r) = sym (moves-so s m ∙ fitting-so _ s _ r)
+
+pub effects-exact : EffectsExact
+effects-exact = record { does = effect; only = effect-only }
+
+-- ---- what holds of refusals and of moves holds of every call
+least : {s : Server} {c : Call (List ℕ)} {k : ℕ} → Refuses s c k → 10 ≤ k
+least (begun n) = omega arith
+least (misfit b n) = omega arith
+least (unread k h e) = h
+least (untaken x e t) = omega arith
+least (misnumbering x e t m) = omega arith
+least (malformed x t w) = omega arith
+least (stale v f x d e) = omega arith
+least (unsent e) = omega arith
+
+pub by-moves : (P : Outcome Server → Type 0) (s : Server) (c : Call (List ℕ)) → ((k : ℕ) → 10 ≤ k → P (refused k s)) → ((o : Outcome Server) → Moves s c o → P o) → P (outcomeOf s c)
+by-moves P s c no yes = go (effect s c)
+  where
+    go : {o : Outcome Server} → Effect s c o → P o
+    go (refuses k r) = no k (least r)
+    go (no-room m r) = no 20 (omega arith)
+    go (moves m r) = yes _ m

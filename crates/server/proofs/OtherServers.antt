@@ -4,7 +4,7 @@ use mathlib.Core.Path.{_≡_, refl, sym, ap, _∙_}
 use mathlib.Core.Bool.{Bool, true, false}
 use mathlib.Core.List.{List, [], _∷_, _++_, append-nil}
 use native.Mathlib.Omega.{arith}
-use lib.ListN.{length, getD, replicate}
+use lib.ListN.{getD, replicate}
 use lib.Dec.{eqb}
 use Rattle.octets.specs.Choice.{pick}
 use Rattle.octets.specs.Lists.{sized, cells}
@@ -20,19 +20,20 @@ use Rattle.packet.specs.Forms.{failureMessage, header, chapPacket, responsePack
 use Rattle.packet.specs.Reader.{place, reading, readPacket, challengeIn}
 use Rattle.packet.proofs.Back.{response-back}
 use Rattle.accounts.specs.Records.{framed as framedRecord, cut, records, every, sound}
-use Rattle.accounts.specs.Accounts.{codeOf, hashOf, isCode, accountGood, recordGood, wellFormed, isAccountOf, firstFrom, accountOf, recordOf}
+use Rattle.accounts.specs.Accounts.{hashOf, isCode, accountGood, recordGood, wellFormed, isAccountOf, firstFrom, accountOf, recordOf}
 use Rattle.mschap.specs.Users.{userOf, userStart, startFrom}
 use Rattle.mschap.specs.Responses.{ntResponse}
 use Rattle.verdict.specs.declared.Verdict.{Verdict}
-use Rattle.verdict.specs.Verdict.{Right, wrong, right}
+use Rattle.verdict.specs.Verdict.{Right, wrong}
 use Rattle.server.specs.declared.Server.{Server}
-use Rattle.server.specs.declared.Stage.{Stage}
-use Rattle.server.specs.declared.Stage.the-variants.{Begin, ChallengeSent, SuccessRequestSent, FailureRequestSent, Success, Failed}
-use Rattle.server.specs.State.{nextId, chapOf, asked}
-use Rattle.server.specs.Moves.{turnOf, Taken}
-use Rattle.server.specs.Calls.{authenticationFailure, dueOf, failOf, actOf, ntResponseOf, responseName, verdictOf, judgedBy, takenBy}
-use Rattle.server.specs.Runs.{Call, starts, brings, resends, Answered, answered, Step, serverStep}
+use Rattle.server.specs.declared.Stage.the-variants.{ChallengeSent}
+use Rattle.server.specs.State.{requestRoom, nextId, chapOf, asked}
+use Rattle.server.specs.Moves.{Taken}
+use Rattle.server.specs.Calls.{dueOf, failOf, actOf, ntResponseOf, responseName, verdictOf, judgedBy}
+use Rattle.server.specs.Runs.{Call, brings, Answered, answered}
 use Rattle.server.specs.Guess.{Side, one, two, lentTo, RightAt, NotRight, WrongGuessRule}
+use Rattle.server.specs.OtherServers.{Judging, takenAs, judgesAs, tellsEarly, countsKnown, TellsEarlyBreaks, CountsKnownBreaks}
+use Rattle.server.proofs.Turns.{taken-turn}
 use Rattle.server.proofs.WrongGuess.{verdict-wrong}
 use Rattle.server.proofs.Forward.{judges-so}
 
@@ -45,7 +46,7 @@ tables one = []
 tables two = (22 ∷ 0 ∷ 1 ∷ 0 ∷ 135 ∷ 2 ∷ []) ++ replicate 16 0
 
 abbrev waiting : ℕ → Server
-waiting retries = record { stage = ChallengeSent; retries = retries; request = record { id = record { 0 = 7 }; chapid = record { 0 = 7 }; challenge = replicate 16 0; octets = []; len = 0 } }
+waiting retries = record { stage = ChallengeSent; retries = retries; request = record { id = record { 0 = 7 }; chapid = record { 0 = 7 }; challenge = replicate 16 0; octets = replicate requestRoom 0; len = 0 } }
 
 abbrev call : ℕ → Call (Side → List ℕ)
 call b = brings (guess b) tables (replicate 16 1) (replicate 60 0)
@@ -88,7 +89,7 @@ not-right : (b retries : ℕ) → (replicate 24 b ≡ due → ⊥) → (x : Side
 not-right b retries h x = (
   sound-tables x,
   λ k j r.
-      let e : k ≡ found = ap (λ (t : Told Packet). t .value) (sym (j .taken .turn) ∙ taken b retries .turn) in
+      let e : k ≡ found = ap (λ (t : Told Packet). t .value) (sym (j .taken .reads) ∙ read-guess b) in
       no-right x b h (read-as x b retries (rw e at r)),
 )
 
@@ -100,24 +101,7 @@ guessed f = go (same (replicate 24 0) due) refl
     go true e = f 1 (λ h. let z : _≡_ {A = ℕ} 0 1 = cc (same-true _ _ e, h) in omega arith)
     go false e = f 0 (λ h. let z : _≡_ {A = ℕ} 0 1 = cc (e, ap (λ (r : List ℕ). same (replicate 24 0) r) h, same-refl (replicate 24 0)) in omega arith)
 
--- ---- a server that judges in its own way, by the record of the user's account and the verdict, and does all else as this page's
-abbrev pub Judging : Type 0
-Judging = List ℕ → Verdict → Server → List ℕ → ℕ → Outcome Server
-
-abbrev pub takenAs : Judging → Stage → Packet → Server → List ℕ → List ℕ → List ℕ → ℕ → Outcome Server
-takenAs j Begin k s p table fresh room = takenBy Begin k s p table fresh room
-takenAs j ChallengeSent k s p table fresh room = j (recordOf table (userOf (responseName k p))) (verdictOf s k p table) s fresh room
-takenAs j SuccessRequestSent k s p table fresh room = takenBy SuccessRequestSent k s p table fresh room
-takenAs j FailureRequestSent k s p table fresh room = takenBy FailureRequestSent k s p table fresh room
-takenAs j Success k s p table fresh room = takenBy Success k s p table fresh room
-takenAs j Failed k s p table fresh room = takenBy Failed k s p table fresh room
-
-abbrev pub judgesAs : Judging → Step
-judgesAs j s (starts id challenge name retries reply) = serverStep s (starts id challenge name retries reply)
-judgesAs j s (brings p table fresh reply) =
-    answered (pick (eqb (turnOf s p .number) 0) (takenAs j (s .stage) (turnOf s p .value) s p table fresh (length reply)) (refused (turnOf s p .number) s)) reply
-judgesAs j s (resends reply) = serverStep s (resends reply)
-
+-- ---- a server that judges in its own way
 -- what it answers to the guess
 module _ (j : Judging) (b retries : ℕ) (x : Side) where
   abbrev judged : List ℕ → Verdict → Answered
@@ -126,7 +110,7 @@ module _ (j : Judging) (b retries : ℕ) (x : Side) where
   answers : judgesAs j (waiting retries) (lentTo x (call b)) ≡ judged (tables x) (verdictOf (waiting retries) found (guess b) (tables x))
   unfolding responseName userOf userStart startFrom
   answers =
-      let t = taken b retries .turn in
+      let t = taken-turn (taken b retries) in
       ap (λ (o : Outcome Server). answered o (replicate 60 0))
       ((λ i. pick (eqb (t i .number) 0) (takenAs j ChallengeSent (t i .value) (waiting retries) (guess b) (tables x) (replicate 16 1) 60) (refused (t i .number) (waiting retries)))
       ∙ pick-true _ _ _ refl)
@@ -150,14 +134,11 @@ breaks j retries rule b h =
     first-of (a ∷ rest) = a
 
 -- ---- a server that tells 647 before the response is found right
-abbrev pub tellsEarly : Judging
-tellsEarly q v s fresh room = judgedBy (pick (eqb (codeOf q) 647) (right 647 []) v) s fresh room
-
 -- the second digit of E in a reply: E=691 at one server, and E=647 at the other
 abbrev digit : Answered → ℕ
 digit a = getD (a .reply) 12 0
 
-pub tells-early-breaks : WrongGuessRule (judgesAs tellsEarly) → ⊥
+pub tells-early-breaks : TellsEarlyBreaks
 unfolding judgedBy dueOf actOf failOf fitting same nextId chapOf failureRequest failureMessage chapPacket header decimal decimals cells hexAt hexDigit numberAt pick
 tells-early-breaks rule =
     guessed (λ b h.
@@ -165,12 +146,8 @@ tells-early-breaks rule =
     omega arith)
 
 -- ---- a server that counts a retry only for known names
-abbrev pub countsKnown : Judging
-countsKnown q v s fresh room =
-    pick (eqb (length q) 0) (failOf (record { stage = s .stage; retries = s .retries; error = authenticationFailure; retry = true }) s fresh room) (judgedBy v s fresh room)
-
 -- one retry is left at one server, and none at the other
-pub counts-known-breaks : WrongGuessRule (judgesAs countsKnown) → ⊥
+pub counts-known-breaks : CountsKnownBreaks
 unfolding judgedBy dueOf actOf failOf asked fitting same nextId chapOf failureRequest failureMessage chapPacket header decimal decimals cells hexAt hexDigit numberAt pick
 counts-known-breaks rule =
     guessed (λ b h.

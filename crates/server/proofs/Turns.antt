@@ -1,15 +1,15 @@
--- What a turn tells: a number from 10 up, or what was read, which the stage takes, under the outstanding Identifier.
-use Prim.Native.Nat.{ℕ, zero, suc, _≤_}
+-- The turn of a packet: a number from 10 to 19, or what was read, which the stage takes, under the outstanding numbers.
+use Prim.Native.Nat.{ℕ, _≤_}
 use mathlib.Core.Path.{_≡_, refl, sym, ap, _∙_}
 use mathlib.Core.Bool.{true, false, not}
 use mathlib.Core.List.{List}
 use native.Mathlib.Omega.{arith}
 use lib.ListN.{getD}
 use lib.Dec.{eqb}
-use borrow.Author.Tests.{eqb-true, eqb-false, not-true, not-false}
-use Rattle.octets.proofs.Exits.{picked, clash, tested, or-first}
-use Rattle.answer.specs.Outcome.{Told, gives, told, Outcome, refused}
-use Rattle.answer.proofs.Told.{told-number, told-gives}
+use borrow.Author.Tests.{eqb-true, ne-eqb}
+use Rattle.octets.proofs.Exits.{pick-true, pick-false, clash, tested, or-first}
+use Rattle.answer.specs.Outcome.{Told, gives, refuses, told, refused}
+use Rattle.answer.proofs.Told.{told-refuses}
 use Rattle.packet.specs.declared.End.the-variants as end
 use Rattle.packet.specs.declared.Packet.{Packet}
 use Rattle.packet.specs.Reader.{noPacket, readPacket}
@@ -17,78 +17,53 @@ use Rattle.packet.proofs.Readings.{ReadOrRefused, none, some, read-or-refused, 
 use Rattle.server.specs.declared.Stage.{Stage}
 use Rattle.server.specs.declared.Server.{Server}
 use Rattle.server.specs.Moves.{takes, misnumbered, turnRefusal, turnOf, Taken}
-use Rattle.server.specs.Calls.{takenBy, packetOf}
+use Rattle.server.specs.Calls.{packetOf}
+use Rattle.server.proofs.Laws.{check-stage, check-numbers, check-taken}
 
--- ---- a turn that takes the packet
-read-gives : (p : List ℕ) → readPacket end.Server p .number ≡ 0 → readPacket end.Server p ≡ gives (readPacket end.Server p .value)
-read-gives p = go (read-or-refused end.Server p)
-  where
-    go : {t : Told Packet} → ReadOrRefused p t → t .number ≡ 0 → t ≡ gives (t .value)
-    go (none n h l) z = absurd (omega arith)
-    go (some k i) z = refl
-
--- none of the three tests refused it
-record Passed (s : Server) (t : Told Packet) : Type 0 where
-  read : t .number ≡ 0
-  kind : takes (s .stage) (t .value .kind) ≡ true
-  numbered : misnumbered s (t .value) ≡ false
-
-passes : (s : Server) (t : Told Packet) → turnRefusal s t ≡ 0 → Passed s t
-unfolding turnRefusal
-passes s t =
-    let P : ℕ → Type 0 = λ n. n ≡ 0 → Passed s t in
-    picked P (not (eqb (t .number) 0)) (λ a z. absurd (eqb-false _ _ (not-true _ a) z))
-    (λ a. picked P (not (takes (s .stage) (t .value .kind))) (λ b z. absurd (omega arith))
-    (λ b. picked P (misnumbered s (t .value)) (λ c z. absurd (omega arith))
-    (λ c z. record { read = eqb-true _ _ (not-false _ a); kind = not-false _ b; numbered = c })))
-
+-- ---- a packet that is taken
 module _ {s : Server} {p : List ℕ} {g : Stage} {k : Packet} (t : Taken s p g k) where
-  told-so : (turnRefusal s (readPacket end.Server p) ≡ 0) × (k ≡ readPacket end.Server p .value)
+  pub taken-turn : turnOf s p ≡ gives k
   unfolding turnOf
-  told-so = told-gives _ noPacket _ k (t .turn)
-
-  passed : Passed s (readPacket end.Server p)
-  passed = passes s _ (told-so .0)
-
-  pub taken-read : readPacket end.Server p ≡ gives k
-  taken-read = read-gives p (passed .read) ∙ ap gives (sym (told-so .1))
-
-  pub taken-kind : takes g (k .kind) ≡ true
-  taken-kind = rw (← t .stage, told-so .1) (passed .kind)
-
-  pub taken-id : k .id .0 ≡ s .request .id .0
-  unfolding misnumbered
-  taken-id =
-      let n : misnumbered s k ≡ false = rw (told-so .1) (passed .numbered) in
-      tested (eqb (k .id .0) (s .request .id .0)) (λ e. eqb-true _ _ e) (λ e. clash n (or-first _ _ (ap not e)))
+  taken-turn =
+      ap (λ (u : Told Packet). told (turnRefusal s u) noPacket (u .value)) (t .reads)
+      ∙ sym (check-taken s k (ap (λ (h : Stage). takes h (k .kind)) (t .stage) ∙ t .kind) (t .numbered))
 
   pub taken-octet : k .id .0 ≡ getD p 1 0
-  taken-octet = read-id end.Server p k taken-read
+  taken-octet = read-id end.Server p k (t .reads)
 
--- ---- what follows a turn
-turn-refuses : (s : Server) (p : List ℕ) → (turnRefusal s (readPacket end.Server p) ≡ 0 → ⊥) → 10 ≤ turnRefusal s (readPacket end.Server p)
-unfolding turnRefusal
-turn-refuses s p =
-    picked (λ (n : ℕ). (n ≡ 0 → ⊥) → 10 ≤ n) (not (eqb (readPacket end.Server p .number) 0)) (λ a z. go (read-or-refused end.Server p) z)
-    (λ a. picked (λ (n : ℕ). (n ≡ 0 → ⊥) → 10 ≤ n) (not (takes (s .stage) (readPacket end.Server p .value .kind))) (λ b z. omega arith)
-    (λ b. picked (λ (n : ℕ). (n ≡ 0 → ⊥) → 10 ≤ n) (misnumbered s (readPacket end.Server p .value)) (λ c z. omega arith) (λ c z. absurd (z refl))))
-  where
-    go : {t : Told Packet} → ReadOrRefused p t → (t .number ≡ 0 → ⊥) → 10 ≤ t .number
-    go (none n h l) z = h
-    go (some k i) z = absurd (z refl)
+-- ---- the four ways of a packet: 10 to 17, 19, 18, or it is taken
+module _ (s : Server) (p : List ℕ) where
+  pub turn-cases : {A : Type 0} → ((n : ℕ) → 10 ≤ n → n ≤ 17 → readPacket end.Server p .number ≡ n → A)
+      → ((x : Packet) → readPacket end.Server p ≡ gives x → takes (s .stage) (x .kind) ≡ false → A)
+      → ((x : Packet) → readPacket end.Server p ≡ gives x → takes (s .stage) (x .kind) ≡ true → misnumbered s x ≡ true → A)
+      → ((x : Packet) → Taken s p (s .stage) x → A) → A
+  turn-cases {A} unread untaken unnumbered taken = go (read-or-refused end.Server p) refl
+    where
+      go : {t : Told Packet} → ReadOrRefused p t → readPacket end.Server p ≡ t → A
+      go (none n h l) e = unread n h l (ap (λ (t : Told Packet). t .number) e)
+      go (some x i) e =
+          tested (takes (s .stage) (x .kind))
+          (λ t. tested (misnumbered s x) (unnumbered x e t) (λ n. taken x (record { reads = e; stage = refl; kind = t; numbered = n })))
+          (untaken x e)
 
-pub turn-gives : (s : Server) (p : List ℕ) → turnOf s p .number ≡ 0 → turnOf s p ≡ gives (turnOf s p .value)
-unfolding turnOf told
-turn-gives s p = go (turnRefusal s (readPacket end.Server p)) (readPacket end.Server p .value)
-  where
-    go : (n : ℕ) (x : Packet) → told n noPacket x .number ≡ 0 → told n noPacket x ≡ gives (told n noPacket x .value)
-    go zero x z = refl
-    go (suc n) x z = absurd (omega arith)
+  module _ (table fresh : List ℕ) (room : ℕ) where
+    turned : (n : ℕ) → eqb n 0 ≡ false → refuses n noPacket ≡ turnOf s p → packetOf s p table fresh room ≡ refused n s
+    unfolding packetOf
+    turned n z e = rw (sym e) (pick-false _ _ _ z)
 
-pub packet-cases : (P : Outcome Server → Type 0) (s : Server) (p table fresh : List ℕ) (room : ℕ) → ((n : ℕ) → 10 ≤ n → P (refused n s))
-    → ((k : Packet) → turnOf s p ≡ gives k → P (takenBy (s .stage) k s p table fresh room)) → P (packetOf s p table fresh room)
-unfolding packetOf turnOf
-packet-cases P s p table fresh room f g =
-    picked P (eqb (turnOf s p .number) 0)
-    (λ e. g _ (turn-gives s p (eqb-true _ _ e)))
-    (λ e. f _ (rw (told-number (turnRefusal s (readPacket end.Server p)) noPacket (readPacket end.Server p .value)) (turn-refuses s p (λ z. eqb-false _ _ e (told-number _ _ _ ∙ z)))))
+    pub packet-unread : (n : ℕ) → 10 ≤ n → readPacket end.Server p .number ≡ n → packetOf s p table fresh room ≡ refused n s
+    unfolding turnOf turnRefusal
+    packet-unread n h e =
+        let z : eqb n 0 ≡ false = ne-eqb n 0 (λ f. absurd (omega arith)) in
+        turned n z (told-refuses n _ noPacket _ (pick-true _ _ _ (ap (λ (m : ℕ). not (eqb m 0)) e ∙ ap not z) ∙ e) z)
+
+    module _ (x : Packet) (reads : readPacket end.Server p ≡ gives x) where
+      turn-read : told (turnRefusal s (gives x)) noPacket x ≡ turnOf s p
+      unfolding turnOf
+      turn-read = ap (λ (u : Told Packet). told (turnRefusal s u) noPacket (u .value)) (sym reads)
+
+      pub packet-untaken : takes (s .stage) (x .kind) ≡ false → packetOf s p table fresh room ≡ refused 19 s
+      packet-untaken t = turned 19 refl (check-stage s x t ∙ turn-read)
+
+      pub packet-unnumbered : takes (s .stage) (x .kind) ≡ true → misnumbered s x ≡ true → packetOf s p table fresh room ≡ refused 18 s
+      packet-unnumbered t m = turned 18 refl (check-numbers s x t m ∙ turn-read)

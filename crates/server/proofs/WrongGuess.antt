@@ -3,10 +3,7 @@ use Prim.Native.Nat.{ℕ}
 use mathlib.Core.Path.{_≡_, refl, sym, ap, _∙_}
 use mathlib.Core.List.{List, [], _∷_}
 use lib.ListN.{length}
-use lib.Dec.{eqb}
-use borrow.Author.Tests.{eqb-true}
-use Rattle.octets.proofs.Exits.{pick-true, pick-false, tested}
-use Rattle.answer.specs.Outcome.{gives, Outcome, Does}
+use Rattle.answer.specs.Outcome.{Outcome}
 use Rattle.answer.specs.Runs.{run}
 use Rattle.packet.specs.declared.Packet.{Packet}
 use Rattle.packet.specs.Reader.{challengeIn}
@@ -17,14 +14,14 @@ use Rattle.verdict.proofs.Rightness.{judge-wrong}
 use Rattle.server.specs.declared.Stage.{Stage}
 use Rattle.server.specs.declared.Stage.the-variants.{Begin, ChallengeSent, SuccessRequestSent, FailureRequestSent, Success, Failed}
 use Rattle.server.specs.declared.Server.{Server}
-use Rattle.server.specs.Moves.{turnOf, Taken}
-use Rattle.server.specs.Calls.{ntResponseOf, responseName, verdictOf, judgedBy, takenBy, packetOf}
-use Rattle.server.specs.Runs.{Call, starts, brings, resends, answered, left, serverStep}
+use Rattle.server.specs.Moves.{Taken}
+use Rattle.server.specs.Calls.{ntResponseOf, responseName, verdictOf, judgedBy, takenBy}
+use Rattle.server.specs.Runs.{Call, starts, brings, resends, answered, ContractAnswers, left, serverStep}
 use Rattle.server.specs.Guess.{Side, one, two, lentTo, callsOf, NotRight, NoneRight, WrongGuessRule}
-use Rattle.server.proofs.Turns.{turn-gives}
+use Rattle.server.proofs.Turns.{turn-cases, packet-unread, packet-untaken, packet-unnumbered}
+use Rattle.server.proofs.Forward.{taken-by}
 
--- what a call's contract says of its result and of the buffer is its answer
-pub does-answered : (o : Outcome Server) (k n : ℕ) (s : Server) (before after : List ℕ) → Does o k n s before after → record { number = k; n = n; reply = after; state = s } ≡ answered o before
+pub does-answered : ContractAnswers
 does-answered o k n s before after d = cc (d .answered, d .count, d .left, d .written)
 
 -- the verdict on a guess that is not right, whatever the table
@@ -35,27 +32,28 @@ verdict-wrong s p table fresh reply k t h =
 
 -- one call
 alike : (s : Server) (c : Call (Side → List ℕ)) → ((x : Side) → NotRight s (lentTo x c)) → serverStep s (lentTo one c) ≡ serverStep s (lentTo two c)
-unfolding serverStep packetOf takenBy
+unfolding serverStep takenBy
 alike s (starts id challenge name retries reply) h = refl
 alike s (resends reply) h = refl
 alike s (brings p t fresh reply) h =
     ap (λ (o : Outcome Server). answered o reply)
-    (tested (eqb (turnOf s p .number) 0)
-    (λ e. pick-true _ _ _ e ∙ by (turn-gives s p (eqb-true _ _ e)) (s .stage) refl ∙ sym (pick-true _ _ _ e))
-    (λ e. pick-false _ _ _ e ∙ sym (pick-false _ _ _ e)))
+    (turn-cases s p
+    (λ n l m e. packet-unread s p (t one) fresh room n l e ∙ sym (packet-unread s p (t two) fresh room n l e))
+    (λ x e k. packet-untaken s p (t one) fresh room x e k ∙ sym (packet-untaken s p (t two) fresh room x e k))
+    (λ x e k n. packet-unnumbered s p (t one) fresh room x e k n ∙ sym (packet-unnumbered s p (t two) fresh room x e k n))
+    (λ x k. taken-by s p (t one) fresh room x (s .stage) k ∙ by x (s .stage) k ∙ sym (taken-by s p (t two) fresh room x (s .stage) k)))
   where
-    k : Packet
-    k = turnOf s p .value
+    room : ℕ
+    room = length reply
 
-    by : turnOf s p ≡ gives k → (g : Stage) → s .stage ≡ g → takenBy g k s p (t one) fresh (length reply) ≡ takenBy g k s p (t two) fresh (length reply)
-    by e Begin f = refl
-    by e ChallengeSent f =
-        let told : Taken s p ChallengeSent k = record { turn = e; stage = f } in
-        ap (λ (v : Verdict). judgedBy v s fresh (length reply)) (verdict-wrong s p (t one) fresh reply k told (h one) ∙ sym (verdict-wrong s p (t two) fresh reply k told (h two)))
-    by e SuccessRequestSent f = refl
-    by e FailureRequestSent f = refl
-    by e Success f = refl
-    by e Failed f = refl
+    by : (x : Packet) (g : Stage) → Taken s p g x → takenBy g x s p (t one) fresh room ≡ takenBy g x s p (t two) fresh room
+    by x Begin k = refl
+    by x ChallengeSent k =
+        ap (λ (v : Verdict). judgedBy v s fresh room) (verdict-wrong s p (t one) fresh reply x k (h one) ∙ sym (verdict-wrong s p (t two) fresh reply x k (h two)))
+    by x SuccessRequestSent k = refl
+    by x FailureRequestSent k = refl
+    by x Success k = refl
+    by x Failed k = refl
 
 pub wrong-guess : WrongGuessRule serverStep
 unfolding run

@@ -4,3 +4,8 @@ pub mod Calls
 pub mod Runs
 pub mod Guess
 pub mod Effects
+pub mod Promises
+pub mod Reading
+pub mod Failing
+pub mod OtherServers
+pub mod Remarks

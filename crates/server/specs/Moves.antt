@@ -58,7 +58,9 @@ turnRefusal s t =
 unfoldable pub turnOf : Server → List ℕ → Told Packet
 turnOf s p = told (turnRefusal s (readPacket end.Server p)) noPacket (readPacket end.Server p .value)
 
--- the packet was read as k, and the stage g takes it
+-- none of 10 to 19 holds: the packet was read as k, the stage is g and takes it, and its numbers are the outstanding ones
 pub record Taken (s : Server) (packet : List ℕ) (g : Stage) (k : Packet) : Type 0 where
-  pub turn : turnOf s packet ≡ gives k
+  pub reads : readPacket end.Server packet ≡ gives k
   pub stage : s .stage ≡ g
+  pub kind : takes g (k .kind) ≡ true
+  pub numbered : misnumbered s k ≡ false

@@ -1,11 +1,15 @@
 -- One server's calls, with all that is lent with them, and what a call answers.
 use Prim.Native.Nat.{ℕ}
-use mathlib.Core.List.{List}
+use mathlib.Core.Path.{_≡_}
+use mathlib.Core.List.{List, [], _∷_}
 use lib.ListN.{length}
 use Rattle.octets.specs.Lists.{over}
-use Rattle.answer.specs.Outcome.{Outcome}
+use Rattle.octets.specs.Octets.{AreOctets}
+use Rattle.answer.specs.Outcome.{Outcome, Does}
+use Rattle.answer.specs.Runs.{after}
 use Rattle.answer.specs.declared.Identifier.{Identifier}
 use Rattle.server.specs.declared.Server.{Server}
+use Rattle.server.specs.State.{initial}
 use Rattle.server.specs.Calls.{startOf, packetOf, resendOf}
 
 -- "the start, packet and resend calls". T is what stands for the account table: the last of a call is the reply buffer beforehand.
@@ -35,6 +39,12 @@ pub record Answered : Type 0 where
 abbrev pub answered : Outcome Server → List ℕ → Answered
 answered o reply = record { number = o .number; n = length (o .octets); reply = over (o .octets) reply; state = o .state }
 
+-- what a call's contract says of its result and of the buffer is its answer
+abbrev pub ContractAnswers : Type 0
+ContractAnswers =
+    (o : Outcome Server) (k n : ℕ) (s : Server) (before after : List ℕ) → Does o k n s before after →
+    record { number = k; n = n; reply = after; state = s } ≡ answered o before
+
 -- the state that a call leaves: with it `run` and `after` of answer/specs/Runs are lists of calls
 abbrev pub left : Answered → Server
 left a = a .state
@@ -43,6 +53,22 @@ left a = a .state
 abbrev pub Step : Type 0
 Step = Server → Call (List ℕ) → Answered
 
--- "this page's server": the contracts of start, packet and resend promise this answer (`does-answered` in proofs/WrongGuess)
+-- "this page's server": the contracts of start, packet and resend promise this answer
 unfoldable pub serverStep : Step
 serverStep s c = answered (outcomeOf s c) (replyOf c)
+
+-- ---- what can be lent: challenges "are values of 16 octets and can't have another size"
+abbrev pub Lent : Call (List ℕ) → Type 0
+Lent (starts id challenge name retries reply) = length challenge ≡ 16
+Lent (brings packet table fresh reply) = (length fresh ≡ 16) × AreOctets fresh
+Lent (resends reply) = Unit {0}
+
+abbrev pub AllLent : List (Call (List ℕ)) → Type 0
+AllLent [] = Unit {0}
+AllLent (c ∷ cs) = Lent c × AllLent cs
+
+-- any calls on from a new server leave s
+pub record Reached (s : Server) : Type 0 where
+  pub calls : List (Call (List ℕ))
+  pub lent : AllLent calls
+  pub is : s ≡ after left serverStep initial calls

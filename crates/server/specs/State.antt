@@ -1,5 +1,6 @@
 -- 01, "The server's moves": the state, what each kind of move makes of it, and the requests that a server writes.
 use Prim.Native.Nat.{ℕ, _+_, _%_}
+use mathlib.Core.Path.{_≡_}
 use mathlib.Core.Bool.{Bool, true, false}
 use mathlib.Core.List.{List, []}
 use lib.ListN.{length, take, replicate}
@@ -69,3 +70,8 @@ asked stage id challenge retries q s = moved stage retries (requested id challen
 -- the stage alone
 unfoldable pub staged : Stage → Server → Server
 staged stage s = moved stage (s .retries) (s .request) s
+
+-- s is a value of the struct: its arrays have their sizes. Here they are lists, whose types do not say so
+pub record IsServer (s : Server) : Type 0 where
+  pub challenge : length (s .request .challenge) ≡ 16
+  pub request : length (s .request .octets) ≡ requestRoom

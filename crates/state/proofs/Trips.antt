@@ -15,9 +15,10 @@ use Rattle.peerlaws.specs.Runs.{IsPeer}
 use Rattle.server.specs.declared.Stage.{Stage as ServerStage}
 use Rattle.server.specs.declared.Stage.the-variants as server
 use Rattle.server.specs.declared.Server.{Server}
+use Rattle.server.specs.State.{IsServer}
 use Rattle.state.specs.PeerOctets.{peerFields, peerOctets, peerStageOf, peerStageNumber, peerOf, octetsOfPeer}
 use Rattle.state.specs.Promises.{AnyOctetsStand, PeerBack, ServerBack}
-use Rattle.state.specs.ServerOctets.{serverFields, serverOctets, serverStageOf, serverStageNumber, serverOf, octetsOfServer, IsServer}
+use Rattle.state.specs.ServerOctets.{serverFields, serverOctets, serverStageOf, serverStageNumber, serverOf, octetsOfServer}
 
 peer-stage : (s : PeerStage) → peerStageOf (peerStageNumber s) ≡ s
 unfolding peerStageOf

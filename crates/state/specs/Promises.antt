@@ -7,8 +7,9 @@ use Rattle.octets.specs.Octets.{AreOctets}
 use Rattle.peer.specs.declared.Peer.{Peer}
 use Rattle.peerlaws.specs.Runs.{IsPeer}
 use Rattle.server.specs.declared.Server.{Server}
+use Rattle.server.specs.State.{IsServer}
 use Rattle.state.specs.PeerOctets.{peerOctets, peerOf, octetsOfPeer}
-use Rattle.state.specs.ServerOctets.{serverOctets, serverOf, octetsOfServer, IsServer}
+use Rattle.state.specs.ServerOctets.{serverOctets, serverOf, octetsOfServer}
 
 -- ---- any octets stand for a value of the struct
 abbrev pub AnyOctetsStand : Type 0

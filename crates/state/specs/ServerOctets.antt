@@ -1,8 +1,7 @@
 -- A server's state as octets: the layout of include/zirgumtak.h.
 use Prim.Native.Nat.{ℕ, _+_, _/_, _%_}
-use mathlib.Core.Path.{_≡_}
 use mathlib.Core.List.{List, [], _∷_, flatten}
-use lib.ListN.{length, getD, drop}
+use lib.ListN.{getD, drop}
 use Rattle.octets.specs.Lists.{sized}
 use Rattle.octets.specs.Octets.{numberAt}
 use Rattle.octets.specs.declared.Order.the-variants.{Little}
@@ -58,8 +57,3 @@ serverFields s = serverNumbers s ∷ s .request .challenge ∷ s .request .octet
 
 unfoldable pub octetsOfServer : Server → List ℕ
 octetsOfServer s = flatten (serverFields s)
-
--- s is a value of the struct: its arrays have their sizes
-pub record IsServer (s : Server) : Type 0 where
-  pub challenge : length (s .request .challenge) ≡ 16
-  pub request : length (s .request .octets) ≡ requestRoom

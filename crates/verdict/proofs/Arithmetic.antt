@@ -12,7 +12,8 @@ use Rattle.mschap.specs.declared.NtResponse.{NtResponse}
 use Rattle.mschap.specs.Responses.{ntResponse, authenticatorOf}
 use Rattle.mschap.proofs.Responses.{nt-response-octets}
 use Rattle.mschap.specs.Answers.{toldNtResponse, ntResponseTold}
-use Rattle.verdict.specs.Verdict.{wrong, right, weighed}
+use Rattle.verdict.specs.Inner.{weighed}
+use Rattle.verdict.specs.Verdict.{wrong, right}
 
 pub nt-computed : (challenge peer response user hash : List ℕ) (x : NtResponse) (r : Bool) → toldNtResponse x ≡ ntResponseTold challenge peer user hash → r ≡ same (x .octets) response
     → length user ≤ maxName → r ≡ same (ntResponse challenge peer user hash) response

@@ -16,7 +16,8 @@ use Rattle.accounts.specs.Accounts.{wellFormed, isAccountOf, recordOf, findTold
 use Rattle.accounts.proofs.Lookups.{account-short}
 use Rattle.accounts.proofs.Answers.{found-says}
 use Rattle.verdict.specs.declared.Verdict.{Verdict}
-use Rattle.verdict.specs.Verdict.{badTable, weighed, judgeUser}
+use Rattle.verdict.specs.Inner.{weighed}
+use Rattle.verdict.specs.Verdict.{badTable, judgeUser}
 
 pub hash-is : (table r : List ℕ) (place : ℕ) → place + 16 ≤ length table → r ≡ sized 16 (drop place table) → r ≡ part table place 16
 hash-is table r place h e = e ∙ sized-take 16 (drop place table) (omega (arith, length-drop place table))
@@ -44,7 +45,7 @@ module _ (challenge peer response user table : List ℕ) where
 
     pub judge-account : (v : Verdict) (code place : ℕ) → f ≡ found.Account code place → v ≡ weighed true code (part table place 16) challenge peer response user
         → v ≡ judgeUser challenge peer response user table
-    unfolding judgeUser
+    unfolding judgeUser weighed
     judge-account v code place h e =
         let s = found-says table user f (found.Account code place) told h in
         e ∙ sym (pick-false _ _ _ (ap not (s .formed)) ∙ rw (s .here, ← s .coded, ← s .hashed))

@@ -2,7 +2,7 @@
 use Prim.Native.Nat.{ℕ}
 use mathlib.Core.Path.{_≡_}
 use mathlib.Core.List.{List}
-use mathlib.Core.Bool.{Bool, true, not}
+use mathlib.Core.Bool.{true, not}
 use lib.ListN.{replicate}
 use Rattle.octets.specs.Choice.{pick}
 use Rattle.octets.specs.Octets.{same}
@@ -29,17 +29,12 @@ wrong = record { mark = mark.Wrong; code = 0; string = replicate 20 0 }
 abbrev pub right : ℕ → List ℕ → Verdict
 right code string = record { mark = mark.Right; code = code; string = string }
 
--- a Response weighed by a code and a hash: of its user's account, if that is known, and else of anything
-unfoldable pub weighed : Bool → ℕ → List ℕ → List ℕ → List ℕ → List ℕ → List ℕ → Verdict
-weighed known code hash challenge peer response user =
-    pick (not known) wrong
-    (pick (not (same (ntResponse challenge peer user hash) response)) wrong
-    (right code (authenticatorOf hash response peer challenge user)))
-
 unfoldable pub judgeUser : List ℕ → List ℕ → List ℕ → List ℕ → List ℕ → Verdict
 judgeUser challenge peer response user table =
     pick (not (wellFormed table)) badTable
-    (weighed (isAccountOf user (recordOf table user)) (codeOf (recordOf table user)) (hashOf (recordOf table user)) challenge peer response user)
+    (pick (not (isAccountOf user (recordOf table user))) wrong
+    (pick (not (same (ntResponse challenge peer user (hashOf (recordOf table user))) response)) wrong
+    (right (codeOf (recordOf table user)) (authenticatorOf (hashOf (recordOf table user)) response peer challenge user))))
 
 -- the verdict on a Response's peer challenge, NT-Response and name, to the outstanding challenge
 unfoldable pub judgeOf : List ℕ → List ℕ → List ℕ → List ℕ → List ℕ → Verdict

@@ -7,7 +7,8 @@ ghost use Rattle.octets.specs.Octets.{same};
 ghost use Rattle.answer.specs.Sizes.{maxName};
 ghost use Rattle.mschap.specs.Responses.{ntResponse, authenticatorOf};
 ghost use Rattle.octets.specs.Lists.{part};
-ghost use Rattle.verdict.specs.Verdict.{weighed, judgeUser, judgeOf};
+ghost use Rattle.verdict.specs.Inner.{weighed};
+ghost use Rattle.verdict.specs.Verdict.{judgeUser, judgeOf};
 use accounts::Found;
 
 // Malformed is the mark of a table, Wrong and Right are marks of a Response.

@@ -1,6 +1,7 @@
 use Rattle.octets.proofs.Appends.{appended-by}
 use borrow.Author.Needs.{needs}
-use Rattle.state.specs.ServerOctets.{octetsOfServer, IsServer}
+use Rattle.server.specs.State.{IsServer}
+use Rattle.state.specs.ServerOctets.{octetsOfServer}
 use Rattle.state.proofs.Trips.{length-octets-of-server}
 use Rattle.state.proofs.Puts.{more, none, stored-not, stored-all}
 use Rattle.state.proofs.encode_server.Statement.{statement}

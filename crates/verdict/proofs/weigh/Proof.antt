@@ -1,6 +1,6 @@
 use Rattle.octets.proofs.Exits.{exits}
 use Rattle.verdict.proofs.Arithmetic.{weigh-wrong, weigh-right, known-so}
-use Rattle.verdict.specs.Verdict.{weighed}
+use Rattle.verdict.specs.Inner.{weighed}
 use borrow.Author.Needs.{needs}
 use Rattle.verdict.proofs.weigh.Statement.{statement}
 use Rattle.verdict.proofs.weigh.Tie as tie

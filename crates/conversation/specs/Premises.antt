@@ -1,0 +1,34 @@
+-- The premises of Login and of Tries can be met, for every name and hash that fit.
+use Prim.Native.Nat.{ℕ, _+_, _/_, _%_, _≤_}
+use mathlib.Core.Path.{_≡_}
+use mathlib.Core.Bool.{true}
+use mathlib.Core.List.{List, [], _∷_, _++_}
+use lib.ListN.{length}
+use Rattle.answer.specs.Sizes.{maxName}
+use Rattle.packet.specs.Forms.{successTextAt}
+use Rattle.accounts.specs.Accounts.{isCode, wellFormed}
+use Rattle.mschap.specs.Users.{userOf}
+use Rattle.conversation.specs.Calls.{Credentials, Login, Try}
+use Rattle.conversation.specs.Login.{RightAccount}
+use Rattle.conversation.specs.Tries.{Wrong, last, Rejected}
+
+-- a table of one account
+abbrev pub accountFor : List ℕ → ℕ → List ℕ → List ℕ
+accountFor user code hash = (22 + length user) % 256 ∷ (22 + length user) / 256 ∷ 1 ∷ 0 ∷ code % 256 ∷ code / 256 ∷ (hash ++ user)
+
+-- the account of these credentials
+abbrev pub tableFor : Credentials → ℕ → List ℕ
+tableFor c code = accountFor (userOf (c .name)) code (c .hash)
+
+pub record NameFits (c : Credentials) : Type 0 where
+  pub name : length (c .name) ≤ maxName
+  pub hash : length (c .hash) ≡ 16
+
+pub record PremisesMet : Type 0 where
+  -- the right account
+  pub granted : (l : Login) (c : Credentials) → NameFits c → l .at-response .table ≡ tableFor c 0 → successTextAt ≤ l .at-response .room → RightAccount l c
+  -- `barred`: the account has one of the other codes, and the table is well formed
+  pub barred-by : (l : Login) (ts : List Try) (code : ℕ) → NameFits (last l ts) → isCode code ≡ true → (code ≡ 0 → ⊥) → l .at-response .table ≡ tableFor (last l ts) code →
+      (wellFormed (l .at-response .table) ≡ true) × Rejected l ts
+  -- a wrong Response: the table of no octets is well formed, and by it none is right
+  pub wrong-by : (challenge : List ℕ) (c : Credentials) → (wellFormed [] ≡ true) × Wrong challenge c []
