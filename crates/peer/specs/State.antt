@@ -29,7 +29,7 @@ lastRequest p = take (p .requestlen) (p .request)
 unfoldable pub lastReply : Peer → List ℕ
 lastReply p = take (p .replylen) (p .reply)
 
--- its Identifier and its MS-CHAPv2-ID, 0 where there is none
+-- the last answered request's Identifier and MS-CHAPv2-ID, 0 where there is none
 unfoldable pub lastId : Peer → ℕ
 lastId p = getD (lastRequest p) 1 0
 

@@ -58,7 +58,7 @@ pub struct Credentials {
     pub hash: [u8; 16],
 }
 
-// The outstanding challenges and MS-CHAPv2-ID.
+// The last Response's challenges and MS-CHAPv2-ID; in WAITING the authenticator's challenge is C.
 pub struct Challenges {
     pub authenticator: [u8; 16],
     pub own: [u8; 16],

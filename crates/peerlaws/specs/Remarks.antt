@@ -32,5 +32,10 @@ IgnoresChapId step =
     (p : Peer) (call : Call) (id chapid chapid′ : ℕ) (c : List ℕ) → IsPeer p → IsCall call → length c ≡ 16 →
     step (keeping p id chapid c) call .octets ≡ step (keeping p id chapid′ c) call .octets
 
+abbrev pub IgnoresC : Step → Type 0
+IgnoresC step =
+    (p : Peer) (call : Call) (id chapid : ℕ) (c c′ : List ℕ) → IsPeer p → IsCall call → length c ≡ 16 → length c′ ≡ 16 →
+    step (keeping p id chapid c) call .octets ≡ step (keeping p id chapid c′) call .octets
+
 abbrev pub PretendsNot : Type 0
-PretendsNot = (step : Step) → Promised step → (IgnoresIdentifier step → ⊥) × (IgnoresChapId step → ⊥)
+PretendsNot = (step : Step) → Promised step → (IgnoresIdentifier step → ⊥) × (IgnoresChapId step → ⊥) × (IgnoresC step → ⊥)
