@@ -1,39 +1,44 @@
 -- Every call answers a number of the list, and a refusal changes nothing.
-use Prim.Native.Nat.{ℕ, _≤_}
+use Prim.Native.Nat.{ℕ}
 use native.Mathlib.Omega.{arith}
 use mathlib.Core.Path.{_≡_, refl, sym, ap, _∙_}
 use mathlib.Core.List.{List, []}
-use mathlib.Core.Bool.{Bool, true, false, _&&_}
+use mathlib.Core.Bool.{true, false, _&&_}
 use mathlib.Core.Logic.{_⊎_, inl, inr, ⊎-elim}
 use lib.ListN.{length}
 use lib.Dec.{ltb}
 use borrow.Author.Tests.{eqb-true, ltb-true, le-ltb}
 use Rattle.octets.specs.Choice.{pick}
-use Rattle.octets.proofs.Exits.{arms, picked, tested, both, pick-true, pick-false}
-use Rattle.answer.specs.Outcome.{Outcome, outcome, refused}
+use Rattle.octets.proofs.Exits.{picked, tested, both, pick-true, pick-false}
+use Rattle.answer.specs.Outcome.{outcome}
 use Rattle.answer.specs.Promises.{IsRefusal}
 use Rattle.answer.specs.Sizes.{maxName}
 use Rattle.peer.specs.declared.Peer.{Peer}
 use Rattle.peer.specs.declared.Stage.the-variants.{Begin}
 use Rattle.peer.specs.State.{initial}
 use Rattle.peer.specs.Calls.{newOf}
-use Rattle.peerlaws.specs.Runs.{Call, step, supply, giveUp, callOf, roomOf, IsCall}
+use Rattle.peerlaws.specs.Runs.{Call, step, supply, giveUp, callOf, roomOf, IsPeer, IsCall}
 use Rattle.peerlaws.specs.Promises.{Refusal, Leaves, written, credentials, authenticated, ended, refusal}
 use Rattle.peerlaws.proofs.Promises.{answers-leave}
 use Rattle.peerlaws.proofs.Sizes.{new-is, call-is}
-use Rattle.server.specs.State as server
-use Rattle.server.specs.Runs.{starts, brings, resends}
+use Rattle.packet.specs.Forms.{eapSuccess, eapFailure}
+use Rattle.server.specs.declared.Server.{Server}
+use Rattle.server.specs.State.{initial as initial-server}
+use Rattle.server.specs.Runs as server
+use Rattle.server.specs.Runs.{starts, brings, resends, replyOf, serverStep}
+use Rattle.server.specs.Promises as server-promises
+use Rattle.server.proofs.Promises.{answers-leave as server-answers}
 use Rattle.state.specs.PeerOctets.{peerOctets, peerOf, octetsOfPeer}
 use Rattle.state.specs.ServerOctets.{serverOf, octetsOfServer}
-use Rattle.state.proofs.Trips.{is-peer, length-octets-of-peer}
-use Rattle.state.proofs.Fields.{peer-octets-back, server-octets-back}
+use Rattle.state.proofs.Trips.{is-peer, length-octets-of-peer, is-server, length-octets-of-server}
 use Rattle.calls.specs.Done as at
 use Rattle.calls.specs.Done.{wordOf, done, unsized}
-use Rattle.calls.specs.Ends.{isPeer, isServer, isSixteen, begun, peerNewAt, peerStepAt, peerSupplyAt, peerGiveUpAt, serverNewAt, serverStartAt, serverPacketAt, serverResendAt}
-use Rattle.calls.specs.Run.{makes, steps, supplies, givesUp, renews, calls}
+use Rattle.calls.specs.Ends.{isPeer, isServer, isSixteen, begun, peerNewAt, peerStepAt, peerSupplyAt, peerGiveUpAt, serverNewAt}
+use Rattle.calls.specs.Run.{makes, steps, supplies, givesUp, renews, calls, areSixteen}
 use Rattle.calls.specs.Promises as promises
-use Rattle.calls.specs.Promises.{WordBack, AnswersAt, MakesFailed, PeerAnswersAt, PeerStays, ServerStays}
+use Rattle.calls.specs.Promises.{WordBack, AnswersAt, MakesFailed, PeerAnswersAt, ServerAnswersAt}
 use Rattle.calls.proofs.Laws.{number-back, n-back, word-small}
+use Rattle.calls.proofs.ServerRuns.{proper, is-initial, toldIn, told-at}
 
 pub word-back : WordBack
 word-back = record { number = number-back; n = n-back; small = word-small }
@@ -72,9 +77,9 @@ made-at : (s name hash : List ℕ) → (isPeer s && isSixteen hash) ≡ true →
 unfolding newOf begun
 made-at s name hash e f =
     let g = both (isPeer s) (isSixteen hash) e in
-    let l = length-octets-of-peer _ (new-is name hash (eqb-true _ _ (g .1))) ∙ sym (eqb-true _ _ (g .0)) in
     let n : newOf name hash ≡ outcome 0 [] (initial Begin name hash) = pick-false _ _ _ f in
-    rw n (promises.answers 0 [] (octetsOfPeer (initial Begin name hash)) (omega arith) (omega arith) (ap (λ (o : Outcome Peer). length (octetsOfPeer (o .state))) (sym n) ∙ l))
+    let z : IsPeer (initial Begin name hash) = rw n at (new-is name hash (eqb-true _ _ (g .1))) in
+    rw n (promises.answers 0 [] (octetsOfPeer (initial Begin name hash)) (omega arith) (omega arith) (length-octets-of-peer _ z ∙ sym (eqb-true _ _ (g .0))))
 
 new-at : (s name hash : List ℕ) → AnswersAt s [] (peerNewAt s name hash) ⊎ MakesFailed s (makes name hash)
 unfolding newOf begun peerNewAt
@@ -99,43 +104,37 @@ peer-answers-at s (supplies name hash random reply) =
     (λ e. unsized-at s reply))
 peer-answers-at s givesUp = inl (picked (AnswersAt s []) _ (λ e. call-at giveUp s [] refl (eqb-true _ _ e) tt) (λ e. unsized-at s []))
 
--- ---- the octets stay where the state does
-stays : {S : Type 0} (octetsOf : S → List ℕ) (a b : Bool) (o : Outcome S) (p : S) (s reply : List ℕ) → octetsOf p ≡ s → pick b o (refused 23 p) .state ≡ p
-    → pick (a && b) (at.ended octetsOf o s reply) (unsized s reply) .state ≡ s
-unfolding pick at.ended
-stays octetsOf true true o p s reply e h = arms (λ (l : List ℕ). l ≡ s) (ltb (o .number) 10) (ap octetsOf h ∙ e) refl
-stays octetsOf true false o p s reply e h = refl
-stays octetsOf false b o p s reply e h = refl
+-- ---- the server
+can-refuse-listed : (c : server.Call (List ℕ)) (k : ℕ) → server-promises.CanRefuse c k → IsRefusal k
+can-refuse-listed (starts id challenge name retries reply) k r =
+    ⊎-elim (λ e. (omega arith, omega arith)) (λ f. ⊎-elim (λ e. (omega arith, omega arith)) (λ e. (omega arith, omega arith)) f) r
+can-refuse-listed (brings packet table fresh reply) k r = (r .0, omega (arith, r .1))
+can-refuse-listed (resends reply) k r = ⊎-elim (λ e. (omega arith, omega arith)) (λ e. (omega arith, omega arith)) r
 
-new-stays : (a b : Bool) (o : Outcome Peer) (p : Peer) (s : List ℕ) → octetsOfPeer p ≡ s → pick b o (refused 23 p) .state ≡ p
-    → pick (a && b) (begun o) (unsized s []) .state ≡ s
-unfolding pick begun
-new-stays true true o p s e h = ap octetsOfPeer h ∙ e
-new-stays true false o p s e h = refl
-new-stays false b o p s e h = refl
-
--- a call that takes no octets of a fixed size beside the state
-alone-stays : {S : Type 0} (octetsOf : S → List ℕ) (a : Bool) (o : Outcome S) (p : S) (s reply : List ℕ) → octetsOf p ≡ s → o .state ≡ p
-    → pick a (at.ended octetsOf o s reply) (unsized s reply) .state ≡ s
-unfolding pick at.ended
-alone-stays octetsOf true o p s reply e h = arms (λ (l : List ℕ). l ≡ s) (ltb (o .number) 10) (ap octetsOf h ∙ e) refl
-alone-stays octetsOf false o p s reply e h = refl
-
-pub peer-stays : PeerStays
-unfolding peerNewAt peerStepAt peerSupplyAt peerGiveUpAt
-peer-stays s (makes name hash) z h = new-stays (isPeer s) (isSixteen hash) _ (peerOf s) s (peer-octets-back s z) h
-peer-stays s (steps packet random reply) z h = stays octetsOfPeer (isPeer s) (isSixteen random) _ (peerOf s) s reply (peer-octets-back s z) h
-peer-stays s (supplies name hash random reply) z h = stays octetsOfPeer (isPeer s) (isSixteen hash && isSixteen random) _ (peerOf s) s reply (peer-octets-back s z) h
-peer-stays s givesUp z h = alone-stays octetsOfPeer (isPeer s) _ (peerOf s) s [] (peer-octets-back s z) h
-
-new-server-stays : (a : Bool) (s : List ℕ) → octetsOfServer server.initial ≡ s → pick a (done 0 (octetsOfServer server.initial) []) (unsized s []) .state ≡ s
+server-leaves-at : {p s′ : Server} {c : server.Call (List ℕ)} {b′ : List ℕ} {k n : ℕ} (s : List ℕ) → server-promises.Leaves p c k n s′ b′ → length (octetsOfServer s′) ≡ length s
+    → AnswersAt s (replyOf c) (done (wordOf k n) (pick (ltb k 10) (octetsOfServer s′) s) b′)
 unfolding pick
-new-server-stays true s e = e
-new-server-stays false s e = refl
+server-leaves-at s (server-promises.written q s′ f g) l = promises.answers 0 q (octetsOfServer s′) (omega arith) f l
+server-leaves-at s (server-promises.authenticated id s′ f g) l = promises.answers 2 (eapSuccess id) (octetsOfServer s′) (omega arith) f l
+server-leaves-at s (server-promises.ended id s′ f g) l = promises.answers 3 (eapFailure id) (octetsOfServer s′) (omega arith) f l
+server-leaves-at {p} {c = c} s (server-promises.refusal k r) l =
+    let i = can-refuse-listed c k r in
+    rw (pick-false (ltb k 10) (octetsOfServer p) s (le-ltb k 10 (i .0))) (promises.refuses k i)
 
-pub server-stays : ServerStays
-unfolding serverNewAt serverStartAt serverPacketAt serverResendAt pick
-server-stays s renews z h = new-server-stays (isServer s) s (ap octetsOfServer h ∙ server-octets-back s z)
-server-stays s (calls (starts id challenge name retries reply)) z h = stays octetsOfServer (isServer s) (isSixteen challenge) _ (serverOf s) s reply (server-octets-back s z) h
-server-stays s (calls (brings packet table fresh reply)) z h = stays octetsOfServer (isServer s) (isSixteen fresh) _ (serverOf s) s reply (server-octets-back s z) h
-server-stays s (calls (resends reply)) z h = alone-stays octetsOfServer (isServer s) _ (serverOf s) s reply (server-octets-back s z) h
+server-call-at : (c : server.Call (List ℕ)) (s : List ℕ) → (isServer s && areSixteen c) ≡ true → AnswersAt s (replyOf c) (toldIn s (serverStep (serverOf s) c))
+unfolding serverStep
+server-call-at c s e =
+    let f = both (isServer s) (areSixteen c) e in
+    server-leaves-at s (server-answers (serverOf s) c _ _ _ _ (record { answered = refl; count = refl; left = refl; written = refl }))
+    (length-octets-of-server _ (proper (serverOf s) c (f .1) (is-server s) .is) ∙ sym (eqb-true _ _ (f .0)))
+
+server-new-at : (s : List ℕ) → AnswersAt s [] (serverNewAt s)
+unfolding serverNewAt wordOf
+server-new-at s =
+    picked (AnswersAt s []) (isServer s)
+    (λ e. promises.answers 0 [] (octetsOfServer initial-server) (omega arith) (omega arith) (length-octets-of-server initial-server is-initial ∙ sym (eqb-true _ _ e)))
+    (λ e. unsized-at s [])
+
+pub server-answers-at : ServerAnswersAt
+server-answers-at s renews = server-new-at s
+server-answers-at s (calls c) = rw (told-at c s) (picked (AnswersAt s (replyOf c)) _ (λ e. server-call-at c s e) (λ e. unsized-at s (replyOf c)))

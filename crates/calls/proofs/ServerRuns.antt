@@ -37,7 +37,7 @@ is-staged : (stage : Stage) (s : Server) → IsServer s → IsServer (staged sta
 unfolding staged
 is-staged stage s z = record { challenge = z .challenge; request = z .request }
 
-proper : (s : Server) (c : Call (List ℕ)) → areSixteen c ≡ true → IsServer s → Proper IsServer s (outcomeOf s c)
+pub proper : (s : Server) (c : Call (List ℕ)) → areSixteen c ≡ true → IsServer s → Proper IsServer s (outcomeOf s c)
 proper s c e z = by-moves (Proper IsServer s) s c (λ k l. record { is = z; still = λ h. refl }) (λ o m. go m e)
   where
     go : {c : Call (List ℕ)} {o : Outcome Server} → Moves s c o → areSixteen c ≡ true → Proper IsServer s o
@@ -53,7 +53,7 @@ server-ended : (c : Call (List ℕ)) (s : List ℕ) → length s ≡ serverOctet
 server-ended c s h e =
     ended-shows octetsOfServer serverOf IsServer serverOctets server-back length-octets-of-server _ s (replyOf c) h (proper (serverOf s) c e (is-server s))
 
-is-initial : IsServer initial
+pub is-initial : IsServer initial
 unfolding initial
 is-initial = record { challenge = refl; request = refl }
 
@@ -78,11 +78,11 @@ server-carried = carry serverOf serverOctets serverCallAt serverCall serverReply
 
 -- ---- the wrong-guess rule
 -- an answer, told in octets
-abbrev toldIn : List ℕ → Answered → Done
+abbrev pub toldIn : List ℕ → Answered → Done
 toldIn s a = done (wordOf (a .number) (a .n)) (pick (ltb (a .number) 10) (octetsOfServer (a .state)) s) (a .reply)
 
 -- a call at the boundary: the sizes, and then what the server answers
-told-at : (c : Call (List ℕ)) (s : List ℕ) → serverCallAt s (calls c) ≡ pick (isServer s && areSixteen c) (toldIn s (serverStep (serverOf s) c)) (unsized s (replyOf c))
+pub told-at : (c : Call (List ℕ)) (s : List ℕ) → serverCallAt s (calls c) ≡ pick (isServer s && areSixteen c) (toldIn s (serverStep (serverOf s) c)) (unsized s (replyOf c))
 unfolding serverStartAt serverPacketAt serverResendAt ended serverStep
 told-at (starts id challenge name retries reply) s = refl
 told-at (brings packet table fresh reply) s = refl

@@ -1,5 +1,5 @@
 -- 01, "What a call answers", of every call at the boundary: it answers a number of the list, and a refusal changes nothing.
-use Prim.Native.Nat.{ℕ, _+_, _*_, _/_, _%_, _≤_, _<_}
+use Prim.Native.Nat.{ℕ, _/_, _%_, _≤_, _<_}
 use mathlib.Core.Path.{_≡_}
 use mathlib.Core.List.{List, []}
 use mathlib.Core.Bool.{true, _&&_}
@@ -11,8 +11,6 @@ use Rattle.answer.specs.Sizes.{maxName}
 use Rattle.accounts.specs.Accounts.{checkNumber}
 use Rattle.peer.specs.declared.Stage.the-variants.{Failed}
 use Rattle.peer.specs.State.{initial}
-use Rattle.peer.specs.declared.Peer.{Peer}
-use Rattle.server.specs.declared.Server.{Server}
 use Rattle.state.specs.PeerOctets.{peerOf, octetsOfPeer}
 use Rattle.state.specs.ServerOctets.{serverOf}
 use Rattle.state.specs.Promises.{IsPeerState, IsServerState}

@@ -1,0 +1,70 @@
+-- The calls without a state: each answers a number of the list, and a refusal leaves the output.
+use Prim.Native.Nat.{ℕ}
+use native.Mathlib.Omega.{arith}
+use mathlib.Core.List.{List}
+use mathlib.Core.Bool.{Bool, true, false}
+use lib.Dec.{eqb}
+use Rattle.octets.specs.Choice.{pick}
+use Rattle.octets.proofs.Exits.{arms}
+use Rattle.answer.specs.Outcome as told
+use Rattle.answer.specs.Outcome.{Told}
+use Rattle.accounts.specs.Accounts.{checkNumber}
+use Rattle.digest.specs.Md4.{md4Told}
+use Rattle.digest.specs.Sha1.{sha1Told}
+use Rattle.mschap.specs.Answers.{limited, passwordHashTold, ntResponseTold, authenticatorTold}
+use Rattle.packet.specs.declared.End.{End}
+use Rattle.packet.specs.declared.End.the-variants as end
+use Rattle.packet.specs.declared.Packet.{Packet}
+use Rattle.packet.specs.Frame.{framed, frameOf}
+use Rattle.packet.specs.Promises.{ReadOrRefused, refused-by, read-as}
+use Rattle.packet.specs.Reader.{readPacket}
+use Rattle.packet.proofs.Readings.{read-or-refused}
+use Rattle.calls.specs.Done.{wordOf, made, given, givenBy}
+use Rattle.calls.specs.Stateless.{endless, readAt, md4At, sha1At, passwordHashAt, desAt, ntResponseAt, authenticatorAt}
+use Rattle.calls.specs.Promises.{NumberAt, good, refusal, MakesAt, gives, refuses, StatelessAnswer}
+
+-- ---- a reader, and the check of a table
+read-number : (e : End) (packet : List ℕ) → NumberAt (wordOf (readPacket e packet .number) 0)
+read-number e packet = go (read-or-refused e packet)
+  where
+    go : {t : Told Packet} → ReadOrRefused packet t → NumberAt (wordOf (t .number) 0)
+    go (refused-by n h l) = refusal n (h, omega arith)
+    go (read-as x i) = good
+
+frame-number : (packet : List ℕ) → NumberAt (wordOf (endless (frameOf packet)) 0)
+unfolding frameOf framed endless pick
+frame-number packet =
+    let P : Told ℕ → Type 0 = λ t. NumberAt (wordOf (pick (eqb (t .number) 0) 23 (t .number)) 0) in
+    arms P _ (refusal 10 (omega arith, omega arith)) (arms P _ (refusal 11 (omega arith, omega arith)) (arms P _ (refusal 12 (omega arith, omega arith)) (refusal 23 (omega arith, omega arith))))
+
+read-at : (e : ℕ) (packet : List ℕ) → NumberAt (readAt e packet)
+unfolding readAt
+read-at e packet = arms NumberAt _ (read-number end.Peer packet) (arms NumberAt _ (read-number end.Server packet) (frame-number packet))
+
+check-at : (table : List ℕ) → NumberAt (wordOf (checkNumber table) 0)
+unfolding checkNumber
+check-at table = arms (λ (k : ℕ). NumberAt (wordOf k 0)) _ (refusal 21 (omega arith, omega arith)) good
+
+-- ---- what is made
+told-out : (b : Bool) (zero x out : List ℕ) → MakesAt out (givenBy (pick b (told.refuses 23 zero) (told.gives x)) out)
+unfolding givenBy given pick
+told-out true zero x out = refuses 23 (omega arith, omega arith)
+told-out false zero x out = gives x
+
+-- the sizes, and then that
+out-at : (b : Bool) (t : Told (List ℕ)) (out : List ℕ) → MakesAt out (givenBy t out) → MakesAt out (pick b (givenBy t out) (made 23 out))
+unfolding wordOf
+out-at b t out h = arms (MakesAt out) b h (refuses 23 (omega arith, omega arith))
+
+pub stateless-answer : StatelessAnswer
+unfolding md4At sha1At passwordHashAt desAt ntResponseAt authenticatorAt md4Told sha1Told passwordHashTold ntResponseTold authenticatorTold limited wordOf
+stateless-answer = record {
+  read = read-at;
+  check = check-at;
+  md4 = λ message out. out-at _ _ out (told-out _ _ _ out);
+  sha1 = λ message out. out-at _ _ out (told-out _ _ _ out);
+  password-hash = λ units out. out-at _ _ out (told-out _ _ _ out);
+  des = λ key block out. arms (MakesAt out) _ (gives _) (refuses 23 (omega arith, omega arith));
+  nt-response = λ authenticator peer user hash out. out-at _ _ out (told-out _ _ _ out);
+  authenticator = λ hash response peer challenge user out. out-at _ _ out (told-out _ _ _ out);
+}

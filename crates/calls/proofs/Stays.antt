@@ -1,0 +1,59 @@
+-- The octets of a state stay where the state does.
+use Prim.Native.Nat.{ℕ}
+use mathlib.Core.Path.{_≡_, refl, ap, _∙_}
+use mathlib.Core.List.{List, []}
+use mathlib.Core.Bool.{Bool, true, false, _&&_}
+use lib.Dec.{ltb}
+use Rattle.octets.specs.Choice.{pick}
+use Rattle.octets.proofs.Exits.{arms}
+use Rattle.answer.specs.Outcome.{Outcome, refused}
+use Rattle.peer.specs.declared.Peer.{Peer}
+use Rattle.server.specs.State.{initial as initial-server}
+use Rattle.server.specs.Runs.{starts, brings, resends}
+use Rattle.state.specs.PeerOctets.{peerOf, octetsOfPeer}
+use Rattle.state.specs.ServerOctets.{serverOf, octetsOfServer}
+use Rattle.state.proofs.Fields.{peer-octets-back, server-octets-back}
+use Rattle.calls.specs.Done.{done, unsized, ended}
+use Rattle.calls.specs.Ends.{isPeer, isServer, isSixteen, begun, peerNewAt, peerStepAt, peerSupplyAt, peerGiveUpAt, serverNewAt, serverStartAt, serverPacketAt, serverResendAt}
+use Rattle.calls.specs.Run.{makes, steps, supplies, givesUp, renews, calls}
+use Rattle.calls.specs.Promises.{PeerStays, ServerStays}
+
+stays : {S : Type 0} (octetsOf : S → List ℕ) (a b : Bool) (o : Outcome S) (p : S) (s reply : List ℕ) → octetsOf p ≡ s → pick b o (refused 23 p) .state ≡ p
+    → pick (a && b) (ended octetsOf o s reply) (unsized s reply) .state ≡ s
+unfolding pick ended
+stays octetsOf true true o p s reply e h = arms (λ (l : List ℕ). l ≡ s) (ltb (o .number) 10) (ap octetsOf h ∙ e) refl
+stays octetsOf true false o p s reply e h = refl
+stays octetsOf false b o p s reply e h = refl
+
+new-stays : (a b : Bool) (o : Outcome Peer) (p : Peer) (s : List ℕ) → octetsOfPeer p ≡ s → pick b o (refused 23 p) .state ≡ p
+    → pick (a && b) (begun o) (unsized s []) .state ≡ s
+unfolding pick begun
+new-stays true true o p s e h = ap octetsOfPeer h ∙ e
+new-stays true false o p s e h = refl
+new-stays false b o p s e h = refl
+
+-- a call that takes no octets of a fixed size beside the state
+alone-stays : {S : Type 0} (octetsOf : S → List ℕ) (a : Bool) (o : Outcome S) (p : S) (s reply : List ℕ) → octetsOf p ≡ s → o .state ≡ p
+    → pick a (ended octetsOf o s reply) (unsized s reply) .state ≡ s
+unfolding pick ended
+alone-stays octetsOf true o p s reply e h = arms (λ (l : List ℕ). l ≡ s) (ltb (o .number) 10) (ap octetsOf h ∙ e) refl
+alone-stays octetsOf false o p s reply e h = refl
+
+pub peer-stays : PeerStays
+unfolding peerNewAt peerStepAt peerSupplyAt peerGiveUpAt
+peer-stays s (makes name hash) z h = new-stays (isPeer s) (isSixteen hash) _ (peerOf s) s (peer-octets-back s z) h
+peer-stays s (steps packet random reply) z h = stays octetsOfPeer (isPeer s) (isSixteen random) _ (peerOf s) s reply (peer-octets-back s z) h
+peer-stays s (supplies name hash random reply) z h = stays octetsOfPeer (isPeer s) (isSixteen hash && isSixteen random) _ (peerOf s) s reply (peer-octets-back s z) h
+peer-stays s givesUp z h = alone-stays octetsOfPeer (isPeer s) _ (peerOf s) s [] (peer-octets-back s z) h
+
+new-server-stays : (a : Bool) (s : List ℕ) → octetsOfServer initial-server ≡ s → pick a (done 0 (octetsOfServer initial-server) []) (unsized s []) .state ≡ s
+unfolding pick
+new-server-stays true s e = e
+new-server-stays false s e = refl
+
+pub server-stays : ServerStays
+unfolding serverNewAt serverStartAt serverPacketAt serverResendAt pick
+server-stays s renews z h = new-server-stays (isServer s) s (ap octetsOfServer h ∙ server-octets-back s z)
+server-stays s (calls (starts id challenge name retries reply)) z h = stays octetsOfServer (isServer s) (isSixteen challenge) _ (serverOf s) s reply (server-octets-back s z) h
+server-stays s (calls (brings packet table fresh reply)) z h = stays octetsOfServer (isServer s) (isSixteen fresh) _ (serverOf s) s reply (server-octets-back s z) h
+server-stays s (calls (resends reply)) z h = alone-stays octetsOfServer (isServer s) _ (serverOf s) s reply (server-octets-back s z) h
