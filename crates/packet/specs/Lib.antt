@@ -4,3 +4,4 @@ pub mod Inner
 pub mod Kinds
 pub mod Promises
 pub mod Reader
+pub mod Written

@@ -29,7 +29,8 @@ use Rattle.peer.specs.Moves.{takes, moveOf, sent, waiting, repeats, misnumbered
 use Rattle.peer.specs.Calls.{digitsIn, renewedIn, confirmation, answerOf, nextOf, leftBy, leaving, movedOf, turnIn, takenOf, readOf, stepOf, responseBy, resumeOf, supplyOf, giveUpOf}
 use Rattle.peerlaws.specs.Promises.{Repeats}
 use Rattle.packet.proofs.Apart.{kind-so}
-use Rattle.packet.proofs.Readings.{ReadOrRefused, none as unread, some, read-or-refused}
+use Rattle.packet.specs.Promises.{ReadOrRefused, refused-by as unread, read-as as some}
+use Rattle.packet.proofs.Readings.{read-or-refused}
 use Rattle.peerlaws.proofs.Forward.{responseIn}
 
 -- ---- a packet. q is what it is cut to, k what was read of it
