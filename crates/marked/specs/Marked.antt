@@ -7,8 +7,7 @@ use Rattle.answer.specs.Outcome.{outcome, refused}
 use Rattle.packet.specs.declared.End.the-variants as end
 use Rattle.packet.specs.declared.Kind.the-variants as kind
 use Rattle.packet.specs.Reader.{place, nowhere, reading, readPacket, refusal}
-use Rattle.packet.specs.Promises.{Learns}
-use Rattle.packet.specs.Written.{learned}
+use Rattle.packet.specs.Learned.{Learns, learned}
 use Rattle.writers.specs.Writers.{writeChallenge}
 use Rattle.mschap.specs.Users.{userOf}
 use Rattle.peer.specs.declared.Peer.{Peer}
@@ -35,7 +34,8 @@ pub record AtBoth (x : List ℕ) (k : ℕ) : Type 0 where
 abbrev pub frz : List ℕ
 frz = 70 ∷ 82 ∷ 90 ∷ []
 
--- with 29 octets of room or more x is what the writer writes, and x reads back as that Challenge, L 29, whatever padding follows
+-- with 29 octets of room or more the writer answers 0 with x, which goes over the buffer's front; and x reads back as that Challenge, L 29, whatever padding
+-- follows
 pub record IsWritten (x : List ℕ) : Type 0 where
   pub writes : (room : ℕ) → 29 ≤ room → writeChallenge 1 1 (replicate 16 0) frz room ≡ outcome 0 x tt
   pub back : (pad : List ℕ) → Learns end.Peer (x ++ pad) (learned (reading kind.Challenge 1 1 29 0 (place 10 16) nowhere (place 26 3)) (replicate 16 0) [] frz)

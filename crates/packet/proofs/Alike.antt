@@ -20,8 +20,7 @@ use Rattle.packet.specs.declared.Packet.{Packet}
 use Rattle.packet.specs.declared.Place.{Place}
 use Rattle.packet.specs.Forms.{challengeNameAt, responseNameAt, successTailAt, no-tail, with-text, successMessage, failureMessage, chapPacket, challengePacket, responsePacket, successResponse, failureResponse, eapSuccess, eapFailure}
 use Rattle.packet.specs.Kinds.{kindNumber}
-use Rattle.packet.specs.Promises.{ReadAlike}
-use Rattle.packet.specs.Written.{tailIn, messageIn, SuccessMessagesApart}
+use Rattle.packet.specs.Learned.{ReadAlike, tailIn, messageIn, SuccessMessagesApart}
 use Rattle.packet.specs.Reader.{at, failureOf, readPacket}
 use Rattle.packet.proofs.Shapes.{ChallengeShape, ResponseShape, SuccessShape, FailureShape}
 use Rattle.packet.proofs.Readings.{tells, Shape}

@@ -27,8 +27,7 @@ use Rattle.packet.specs.declared.Packet.{Packet}
 use Rattle.packet.specs.declared.Place.{Place}
 use Rattle.packet.specs.Frame.{codeOf}
 use Rattle.packet.specs.Forms.{challengeNameAt, maxChallengeName, responseNameAt, successTailAt, successTextAt, wordS, wordE, wordR, wordC, wordV, wordM, eightZeros, Tail, no-tail, with-text, tailOctets, successMessage, FailureSpelling, failureMessage, header, chapPacket, challengePacket, responsePacket, successRequest, failureRequest, successResponse, failureResponse, eapSuccess, eapFailure}
-use Rattle.packet.specs.Promises.{Learns}
-use Rattle.packet.specs.Written.{learned, challengeLearned, responseLearned, textStart, textOf, successReading, failureReading, SuccessReads, WrittenReadsBack}
+use Rattle.packet.specs.Learned.{Learns, learned, textStart, textOf, successReading, failureReading, SuccessReads, WrittenReadsBack}
 use Rattle.packet.specs.Inner.{atPeer, atServer, atEnd}
 use Rattle.packet.specs.Reader.{challengePlace, ntResponsePlace, stringPlace, refusal, chapRow, challengeFormed, readChallenge, responseFormed, readResponse, successFormed, textAt, readSuccess, failureFormed, failureOf, failureRow, errorDigits, readFailure, readBare, readCut, readPacket, reading, place, nowhere, at}
 use Rattle.packet.proofs.Frames.{framed-whole}

@@ -24,7 +24,7 @@ use Rattle.packet.specs.declared.Place.{Place}
 use Rattle.packet.specs.Forms.{Formed}
 use Rattle.packet.specs.Frame.{codeOf, lengthOf, cutOf, framed}
 use Rattle.packet.specs.Inner.{atPeer, atServer, atEnd}
-use Rattle.packet.specs.Reader.{refusal, chapRow, readChallenge, readResponse, readSuccess, failureRow, readFailure, readBare, readCut, readPacket}
+use Rattle.packet.specs.Reader.{refusal, chapRow, readChallenge, readResponse, readSuccess, failureRow, readFailure, readBare, readPacket}
 use Rattle.packet.specs.Promises.{typeOf, opCodeOf, msLengthOf, CodeFor, HasOpCode, FirstFour, a-challenge, a-response, a-success-request, a-failure-request, InTable, first-four, a-success-response, a-failure-response, Condition, too-few, bad-length, too-long, bad-code, bad-type, bad-opcode, bad-ms-length, bad-form, First, RefusedExactly}
 use Rattle.packet.proofs.Frames.{neither, InFrame}
 use Rattle.packet.proofs.Ends.{at-end}

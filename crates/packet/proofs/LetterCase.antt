@@ -1,16 +1,16 @@
 -- A Failure Request's C taken as its 16 octets: the case of its digits is free, and nothing else.
 use Prim.Native.Nat.{ℕ, zero, suc, _+_, _-_, _*_, _/_, _%_, _≤_, _<_}
 use mathlib.Core.Path.{_≡_, sym, ap, subst, _∙_}
-use mathlib.Core.Logic.{_⊎_, inl, inr}
+use mathlib.Core.Logic.{inl, inr}
 use mathlib.Core.Bool.{true}
 use mathlib.Core.List.{List, [], _∷_, _++_, append-assoc}
 use native.Mathlib.Omega.{arith}
 use lib.ListN.{length, getD, take, drop, length-append}
 use lib.Seq.{take-at, drop-at}
 use borrow.Author.Tests.{lt-ltb, le-ltb}
-use Rattle.octets.specs.Lists.{part, cells, pasted}
+use Rattle.octets.specs.Lists.{part, pasted}
 use Rattle.octets.specs.Octets.{AreOctets, isHex, allHex, hexValue, unhexAt}
-use Rattle.octets.proofs.Exits.{pick-true, pick-false, pick-both, picked, below, clash}
+use Rattle.octets.proofs.Exits.{pick-true, pick-false, pick-both, below, clash}
 use Rattle.octets.proofs.Lists.{getD-cells}
 use Rattle.octets.proofs.Scans.{getD-past}
 use Rattle.octets.proofs.Parts.{length-part, drop-next}
@@ -20,7 +20,7 @@ use Rattle.packet.specs.declared.Packet.{Packet}
 use Rattle.packet.specs.declared.Place.{Place}
 use Rattle.packet.specs.Forms.{wordE, wordR, wordC, wordV, wordM, failureMessage, header, chapPacket}
 use Rattle.packet.specs.Frame.{cutOf}
-use Rattle.packet.specs.Promises.{sixteenOf, HasC, SameDigit, equal, upper-lower, lower-upper, SameButForCase, ReadAlikeButForCase}
+use Rattle.packet.specs.Learned.{sixteenOf, HasC, SameDigit, equal, upper-lower, lower-upper, SameButForCase, ReadAlikeButForCase}
 use Rattle.packet.specs.Reader.{at, place}
 use Rattle.packet.proofs.Exact.{cut-octets}
 use Rattle.packet.proofs.Readings.{tells, Shape}

@@ -1,4 +1,4 @@
--- What holds of the reader as a whole, at either end.
+-- What holds of the reader as a whole, at either end. What is learned of a packet by reading it stands in Learned.
 use Prim.Native.Nat.{ℕ, _+_, _-_, _≤_, _<_}
 use mathlib.Core.Path.{_≡_}
 use mathlib.Core.Logic.{_⊎_}
@@ -6,8 +6,7 @@ use mathlib.Core.Bool.{false}
 use mathlib.Core.List.{List, _∷_, _++_}
 use lib.ListN.{length, getD}
 use lib.Dec.{eqb}
-use Rattle.octets.specs.Lists.{cells, pasted}
-use Rattle.octets.specs.Octets.{AreOctets, numberAt, unhexAt}
+use Rattle.octets.specs.Octets.{AreOctets, numberAt}
 use Rattle.octets.specs.declared.Order.the-variants.{Big}
 use Rattle.answer.specs.Outcome.{Told, gives}
 use Rattle.answer.specs.Sizes.{maxPacket, maxName}
@@ -18,7 +17,7 @@ use Rattle.packet.specs.declared.Kind.the-variants.{Challenge, Response,
 use Rattle.packet.specs.declared.Packet.{Packet}
 use Rattle.packet.specs.Forms.{Formed}
 use Rattle.packet.specs.Frame.{codeOf, lengthOf, cutOf}
-use Rattle.packet.specs.Reader.{at, reading, refusal, readPacket}
+use Rattle.packet.specs.Reader.{reading, refusal, readPacket}
 
 -- ---- 1. 01, "What a call answers": when each of 10 to 17 is given
 abbrev pub typeOf : List ℕ → ℕ
@@ -166,46 +165,3 @@ pub data Renumbered (i j : ℕ) (t t′ : Told Packet) : Type 0 where
 
 abbrev pub ReadRenumbered : Type 0
 ReadRenumbered = (i j : ℕ) (end : End) (code : ℕ) (rest : List ℕ) → Renumbered i j (readPacket end (code ∷ i ∷ rest)) (readPacket end (code ∷ j ∷ rest))
-
--- ---- 5. Two packets that read alike
--- what a reader learns of a packet: its reading, and the octets at the reading's three places
-pub record Learned : Type 0 where
-  pub packet : Packet
-  pub challenge : List ℕ
-  pub response : List ℕ
-  pub tail : List ℕ
-
--- at this end p reads, and tells that much
-pub record Learns (end : End) (p : List ℕ) (l : Learned) : Type 0 where
-  pub reads : readPacket end p ≡ gives (l .packet)
-  pub challenge-is : at p (l .packet .challenge) ≡ l .challenge
-  pub response-is : at p (l .packet .response) ≡ l .response
-  pub tail-is : at p (l .packet .tail) ≡ l .tail
-
--- packets of which the same is learned are the same octets up to L. Leading zeros of E and V show too: they move the places
-abbrev pub ReadAlike : Type 0
-ReadAlike = (end end′ : End) (p p′ : List ℕ) (l : Learned) → AreOctets p → AreOctets p′ → Learns end p l → Learns end′ p′ l → cutOf p ≡ cutOf p′
-
--- where a Failure Request's C is taken as its 16 octets, the case of its 32 digits is free, and nothing else
-abbrev pub sixteenOf : List ℕ → List ℕ
-sixteenOf c = cells 16 (unhexAt c)
-
-abbrev pub HasC : Kind → Type 0
-HasC kind = (kind ≡ FailureRequest) ⊎ (kind ≡ RetryRequest)
-
--- the same digit, in either case
-pub data SameDigit : ℕ → ℕ → Type 0 where
-  equal : (x : ℕ) → SameDigit x x
-  upper-lower : (x : ℕ) → 65 ≤ x → x ≤ 70 → SameDigit x (x + 32)
-  lower-upper : (x : ℕ) → 65 ≤ x → x ≤ 70 → SameDigit (x + 32) x
-
--- q′ is q, with digits at C that differ in their case alone
-pub record SameButForCase (q q′ : List ℕ) (x : Packet) : Type 0 where
-  pub outside : q′ ≡ pasted q (x .challenge .start) (at q′ (x .challenge))
-  pub digits : (k : ℕ) → SameDigit (getD (at q (x .challenge)) k 0) (getD (at q′ (x .challenge)) k 0)
-
-abbrev pub ReadAlikeButForCase : Type 0
-ReadAlikeButForCase =
-    (p p′ : List ℕ) (x : Packet) → AreOctets p → AreOctets p′ → readPacket Peer p ≡ gives x → readPacket Peer p′ ≡ gives x → HasC (x .kind) →
-    sixteenOf (at p (x .challenge)) ≡ sixteenOf (at p′ (x .challenge)) → at p (x .tail) ≡ at p′ (x .tail) →
-    SameButForCase (cutOf p) (cutOf p′) x

@@ -16,8 +16,7 @@ use Rattle.answer.proofs.Outcomes.{fitting-so}
 use Rattle.packet.specs.declared.End.{End}
 use Rattle.packet.specs.declared.End.the-variants.{Peer, Server}
 use Rattle.packet.specs.declared.Packet.{Packet}
-use Rattle.packet.specs.Promises.{Learns}
-use Rattle.packet.specs.Written.{learned}
+use Rattle.packet.specs.Learned.{Learns, learned}
 use Rattle.packet.proofs.Sizes.{length-challengePacket, length-responsePacket, length-successRequest, length-failureRequest}
 use Rattle.packet.proofs.Places.{reading-tells}
 use Rattle.packet.proofs.Back.{Back, learns, challenge-back, response-back, success-request-back, failure-request-back, challenge-again, success-response-back, failure-response-back, eap-success-back, eap-failure-back}

@@ -11,8 +11,7 @@ use Rattle.packet.specs.declared.End.the-variants.{Peer, Server}
 use Rattle.packet.specs.declared.Kind.the-variants.{SuccessResponse, FailureResponse, EapSuccess, EapFailure}
 use Rattle.packet.specs.Forms.{with-text}
 use Rattle.packet.specs.Frame.{lengthOf}
-use Rattle.packet.specs.Promises.{Learned, Learns, sixteenOf}
-use Rattle.packet.specs.Written.{learned, challengeLearned, responseLearned, successReading, failureReading, bareLearned}
+use Rattle.packet.specs.Learned.{Learned, Learns, sixteenOf, learned, challengeLearned, responseLearned, successReading, failureReading, bareLearned}
 use Rattle.writers.specs.Writers.{writeChallenge, writeResponse, writeSuccessRequest, writeFailureRequest, writeSuccessResponse, writeFailureResponse, writeEapSuccess, writeEapFailure}
 
 -- a buffer reads at an end, whatever stands in it after the packet, and tells l; "n is a writer's L"
@@ -22,22 +21,22 @@ pub record ReadsBack (end : End) (after : List ℕ) (n : ℕ) (l : Learned) : Ty
   pub n-there : n ≡ lengthOf after
 
 -- so does every buffer that a writer made of another, answering 0 and n; its argument is the room there
-abbrev pub Written : (ℕ → Outcome (Unit {0})) → End → Learned → Type 0
-Written write end l = (n : ℕ) (old after : List ℕ) → Does (write (length old)) 0 n tt old after → ReadsBack end after n l
+abbrev pub AlwaysReadsBack : (ℕ → Outcome (Unit {0})) → End → Learned → Type 0
+AlwaysReadsBack write end l = (n : ℕ) (old after : List ℕ) → Does (write (length old)) 0 n tt old after → ReadsBack end after n l
 
 pub record WritersReadBack : Type 0 where
   pub challenge : (id chapid : ℕ) (challenge name : List ℕ) → length challenge ≡ 16 →
-      Written (writeChallenge id chapid challenge name) Peer (challengeLearned id chapid challenge name)
+      AlwaysReadsBack (writeChallenge id chapid challenge name) Peer (challengeLearned id chapid challenge name)
   pub response : (id chapid : ℕ) (peer response name : List ℕ) → length peer ≡ 16 → length response ≡ 24 →
-      Written (writeResponse id chapid peer response name) Server (responseLearned id chapid peer response name)
+      AlwaysReadsBack (writeResponse id chapid peer response name) Server (responseLearned id chapid peer response name)
   pub success-request : (id chapid : ℕ) (string text : List ℕ) → AreOctets string →
-      Written (writeSuccessRequest id chapid string text) Peer (learned (successReading id chapid (with-text text)) [] (cells 40 (hexAt string)) text)
+      AlwaysReadsBack (writeSuccessRequest id chapid string text) Peer (learned (successReading id chapid (with-text text)) [] (cells 40 (hexAt string)) text)
   pub failure-request : (id chapid error retry : ℕ) (challenge text : List ℕ) → AreOctets challenge →
-      Written (writeFailureRequest id chapid error retry challenge text) Peer
+      AlwaysReadsBack (writeFailureRequest id chapid error retry challenge text) Peer
       (learned (failureReading id chapid error retry (length (decimal error)) (57 + length (decimal error)) text) (cells 32 (hexAt challenge)) [] text)
   -- and the 32 digits of its C are the 16 octets
   pub failure-challenge : (challenge : List ℕ) → length challenge ≡ 16 → AreOctets challenge → sixteenOf (cells 32 (hexAt challenge)) ≡ challenge
-  pub success-response : (id : ℕ) → Written (writeSuccessResponse id) Server (bareLearned SuccessResponse id 6)
-  pub failure-response : (id : ℕ) → Written (writeFailureResponse id) Server (bareLearned FailureResponse id 6)
-  pub eap-success : (id : ℕ) → Written (writeEapSuccess id) Peer (bareLearned EapSuccess id 4)
-  pub eap-failure : (id : ℕ) → Written (writeEapFailure id) Peer (bareLearned EapFailure id 4)
+  pub success-response : (id : ℕ) → AlwaysReadsBack (writeSuccessResponse id) Server (bareLearned SuccessResponse id 6)
+  pub failure-response : (id : ℕ) → AlwaysReadsBack (writeFailureResponse id) Server (bareLearned FailureResponse id 6)
+  pub eap-success : (id : ℕ) → AlwaysReadsBack (writeEapSuccess id) Peer (bareLearned EapSuccess id 4)
+  pub eap-failure : (id : ℕ) → AlwaysReadsBack (writeEapFailure id) Peer (bareLearned EapFailure id 4)
