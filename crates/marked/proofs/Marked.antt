@@ -2,18 +2,22 @@
 use Prim.Native.Nat.{ℕ, _≤_}
 use mathlib.Core.Path.{_≡_, refl, sym, ap, _∙_}
 use mathlib.Core.Bool.{false, not}
-use mathlib.Core.List.{List, [], _∷_}
+use mathlib.Core.List.{List, [], _∷_, _++_}
+use native.Mathlib.Omega.{arith}
+use lib.ListN.{replicate}
 use lib.Dec.{eqb}
 use Rattle.octets.specs.Choice.{pick}
 use Rattle.octets.specs.Octets.{octetIs, numberAt}
 use Rattle.octets.proofs.Exits.{pick-true, pick-false}
 use Rattle.answer.specs.Outcome.{outcome, refused}
 use Rattle.answer.proofs.Told.{told-number}
+use Rattle.answer.proofs.Outcomes.{fitting-so}
 use Rattle.packet.specs.declared.End.the-variants as end
 use Rattle.packet.specs.Frame.{framed, typed}
 use Rattle.packet.specs.Reader.{refusal, chapRow, challengeFormed, readChallenge, readSuccess, rowOf, opened, readCut, readPacket}
 use Rattle.packet.specs.Forms.{challengePacket, chapPacket, header, successResponse}
-use Rattle.packet.proofs.Back.{success-response-back}
+use Rattle.packet.proofs.Back.{learns, challenge-back, success-response-back}
+use Rattle.writers.proofs.Writing.{writing-so}
 use Rattle.mschap.specs.Users.{userOf, userStart, startFrom}
 use Rattle.peer.specs.Calls.{stepOf, readOf}
 use Rattle.server.specs.declared.Server.{Server}
@@ -22,7 +26,7 @@ use Rattle.server.specs.State.{staged}
 use Rattle.server.specs.Moves.{turnRefusal, turnOf}
 use Rattle.server.specs.Calls.{packetOf}
 use Rattle.server.proofs.Forward.{confirms-so, confirmed}
-use Rattle.marked.specs.Marked.{AtPeer, AtServer, AtBoth, Marked}
+use Rattle.marked.specs.Marked.{AtPeer, AtServer, AtBoth, frz, IsWritten, Marked}
 
 at-peer : (x : List ℕ) (k : ℕ) → readPacket end.Peer x ≡ refusal k → eqb k 0 ≡ false → AtPeer x k
 unfolding stepOf readOf
@@ -41,22 +45,31 @@ at-server x k e z =
 at-both : (x : List ℕ) (k : ℕ) → readPacket end.Peer x ≡ refusal k → readPacket end.Server x ≡ refusal k → eqb k 0 ≡ false → AtBoth x k
 at-both x k p s z = record { peer = at-peer x k p z; server = at-server x k s z }
 
+w8-holds : IsWritten ((1 ∷ 1 ∷ 0 ∷ 29 ∷ 26 ∷ 1 ∷ 1 ∷ 0 ∷ 24 ∷ 16 ∷ []) ++ replicate 16 0 ++ frz)
+unfolding challengePacket chapPacket header
+w8-holds =
+    let q = challengePacket 1 1 (replicate 16 0) frz in
+    record {
+      writes = λ room h. writing-so _ room q refl (omega arith) ∙ fitting-so room tt (outcome 0 q tt) (omega arith);
+      back = learns (challenge-back 1 1 (replicate 16 0) frz refl (omega arith) (omega arith));
+    }
+
 w10-holds : (s : Server) → s .stage ≡ stage.SuccessRequestSent → s .request .id .0 ≡ 7 → (table fresh : List ℕ) (room : ℕ) → 4 ≤ room → packetOf s (successResponse 7) table fresh room ≡ outcome 2 (3 ∷ 7 ∷ 0 ∷ 4 ∷ []) (staged stage.Success s)
 w10-holds s h i table fresh room l =
     confirmed s (successResponse 7) table fresh room _ (confirms-so s (successResponse 7) _ (success-response-back 7 .reads []) (sym i) h refl) l
 
 pub marked : Marked
-unfolding readPacket framed readCut typed opened rowOf readChallenge readSuccess chapRow challengeFormed numberAt octetIs pick challengePacket chapPacket header userOf userStart startFrom
+unfolding readPacket framed readCut typed opened rowOf readChallenge readSuccess chapRow challengeFormed numberAt octetIs pick userOf userStart startFrom
 marked = record {
-  w1 = at-both _ 10 refl refl refl;
-  w2 = at-both _ 11 refl refl refl;
-  w3 = at-both _ 11 refl refl refl;
-  w4 = at-peer _ 13 refl refl;
-  w5 = at-peer _ 14 refl refl;
-  w6 = at-peer _ 15 refl refl;
-  w7 = at-peer _ 16 refl refl;
-  w8 = refl;
-  w9 = at-peer _ 17 refl refl;
+  w1 = at-both _ _ refl refl refl;
+  w2 = at-both _ _ refl refl refl;
+  w3 = at-both _ _ refl refl refl;
+  w4 = at-peer _ _ refl refl;
+  w5 = at-peer _ _ refl refl;
+  w6 = at-peer _ _ refl refl;
+  w7 = at-peer _ _ refl refl;
+  w8 = w8-holds;
+  w9 = at-peer _ _ refl refl;
   w10 = w10-holds;
   w11 = refl;
   w12 = refl;

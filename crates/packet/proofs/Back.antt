@@ -27,19 +27,22 @@ use Rattle.packet.specs.declared.Packet.{Packet}
 use Rattle.packet.specs.declared.Place.{Place}
 use Rattle.packet.specs.Frame.{codeOf}
 use Rattle.packet.specs.Forms.{challengeNameAt, maxChallengeName, responseNameAt, successTailAt, successTextAt, wordS, wordE, wordR, wordC, wordV, wordM, eightZeros, Tail, no-tail, with-text, tailOctets, successMessage, FailureSpelling, failureMessage, header, chapPacket, challengePacket, responsePacket, successRequest, failureRequest, successResponse, failureResponse, eapSuccess, eapFailure}
-use Rattle.packet.specs.Promises.{textStart, textOf, successReading, SuccessReads}
+use Rattle.packet.specs.Learned.{Learns, learned, textStart, textOf, successReading, failureReading, SuccessReads, WrittenReadsBack}
 use Rattle.packet.specs.Inner.{atPeer, atServer, atEnd}
 use Rattle.packet.specs.Reader.{challengePlace, ntResponsePlace, stringPlace, refusal, chapRow, challengeFormed, readChallenge, responseFormed, readResponse, successFormed, textAt, readSuccess, failureFormed, failureOf, failureRow, errorDigits, readFailure, readBare, readCut, readPacket, reading, place, nowhere, at}
 use Rattle.packet.proofs.Frames.{framed-whole}
 use Rattle.packet.proofs.Ends.{at-end}
 use Rattle.packet.proofs.Sizes.{length-chapPacket, length-challengePacket, length-responsePacket, length-success, length-failure}
 
--- q reads as x, with these octets at x's places, whatever follows q
+-- q reads as x, with these octets at x's places, whatever follows q: for callers
 pub record Back (end : End) (q : List ℕ) (x : Packet) (challenge response tail : List ℕ) : Type 0 where
   pub reads : (pad : List ℕ) → readPacket end (q ++ pad) ≡ gives x
   pub challenge-is : (pad : List ℕ) → at (q ++ pad) (x .challenge) ≡ challenge
   pub response-is : (pad : List ℕ) → at (q ++ pad) (x .response) ≡ response
   pub tail-is : (pad : List ℕ) → at (q ++ pad) (x .tail) ≡ tail
+
+pub learns : {end : End} {q : List ℕ} {x : Packet} {challenge response tail : List ℕ} → Back end q x challenge response tail → (pad : List ℕ) → Learns end (q ++ pad) (learned x challenge response tail)
+learns b pad = record { reads = b .reads pad; challenge-is = b .challenge-is pad; response-is = b .response-is pad; tail-is = b .tail-is pad }
 
 -- ---- a packet q of l octets, whose Length field says so
 whole : (end : End) (q pad : List ℕ) (l : ℕ) → length q ≡ l → 4 ≤ l → l ≤ maxPacket → numberAt Big (q ++ pad) 2 ≡ l → readPacket end (q ++ pad) ≡ readCut end q
@@ -206,7 +209,7 @@ module _ (id chapid : ℕ) (s : List ℕ) (tail : Tail) (forty : length s ≡ 40
       }
 
 pub success-reads : SuccessReads
-success-reads id chapid s tail pad forty upper few = success-back id chapid s tail forty upper few .reads pad
+success-reads id chapid s tail pad forty upper few = learns (success-back id chapid s tail forty upper few) pad
 
 -- ---- a Failure Request, its digits spelled in any way that is a form
 -- the digit of R
@@ -273,7 +276,7 @@ module _ (id chapid : ℕ) (e : List ℕ) (retry : ℕ) (c v text : List ℕ) (f
       ∙ stands-from q wordM text (53 + length e + length v) end-from
 
   abbrev failure-reading : Packet
-  failure-reading = reading (failureOf retry) id chapid (56 + length e + length v + length text) (number e) (place (18 + length e) 32) nowhere (place (56 + length e + length v) (length text))
+  failure-reading = failureReading id chapid (number e) retry (length e) (56 + length e + length v) text
 
   failure-reads : readFailure q ≡ gives failure-reading
   unfolding readFailure failureRow
@@ -306,7 +309,7 @@ unfolding successRequest
 success-request-back id chapid string text o few =
     success-back id chapid (cells 40 (hexAt string)) (with-text text) (length-cells 40 (hexAt string)) (all-hex-of false string 40 o) few
 
-pub failure-request-back : (id chapid error retry : ℕ) (challenge text : List ℕ) → error ≤ 9999999999 → retry ≤ 1 → AreOctets challenge → 57 + length (decimal error) + length text ≤ maxPacket → Back Peer (failureRequest id chapid error retry challenge text) (reading (failureOf retry) id chapid (57 + length (decimal error) + length text) error (place (18 + length (decimal error)) 32) nowhere (place (57 + length (decimal error)) (length text))) (cells 32 (hexAt challenge)) [] text
+pub failure-request-back : (id chapid error retry : ℕ) (challenge text : List ℕ) → error ≤ 9999999999 → retry ≤ 1 → AreOctets challenge → 57 + length (decimal error) + length text ≤ maxPacket → Back Peer (failureRequest id chapid error retry challenge text) (failureReading id chapid error retry (length (decimal error)) (57 + length (decimal error)) text) (cells 32 (hexAt challenge)) [] text
 unfolding failureRequest digits isDigit pick number numberFrom
 failure-request-back id chapid error retry challenge text h r o few =
     let d = length (decimal error) in
@@ -350,3 +353,15 @@ module _ (id : ℕ) where
   unfolding atEnd atPeer readBare numberAt pick
   eap-failure-back =
       record { reads = λ pad. bare-whole Peer (eapFailure id) pad 4 refl (omega arith) (omega arith) refl; challenge-is = λ pad. refl; response-is = λ pad. refl; tail-is = λ pad. refl }
+
+pub written-reads-back : WrittenReadsBack
+written-reads-back = record {
+  challenge = λ id chapid challenge name pad e h k. learns (challenge-back id chapid challenge name e h (omega arith)) pad;
+  response = λ id chapid peer response name pad e f h. learns (response-back id chapid peer response name e f h) pad;
+  success-request = success-reads;
+  failure-request = λ id chapid e retry c v text pad f h. learns (failure-back id chapid e retry c v text f h) pad;
+  success-response = λ id pad. learns (success-response-back id) pad;
+  failure-response = λ id pad. learns (failure-response-back id) pad;
+  eap-success = λ id pad. learns (eap-success-back id) pad;
+  eap-failure = λ id pad. learns (eap-failure-back id) pad;
+}

@@ -1,7 +1,7 @@
 -- The reader takes exactly the packets of the table, up to 1,020 octets.
-use Prim.Native.Nat.{ℕ, _+_, _≤_}
-use mathlib.Core.Path.{_≡_, sym, subst}
-use mathlib.Core.List.{List, _++_}
+use Prim.Native.Nat.{ℕ, _+_}
+use mathlib.Core.Path.{sym, subst}
+use mathlib.Core.List.{List}
 use native.Mathlib.Omega.{arith}
 use lib.ListN.{length, take, drop, length-take, length-drop, List·getD-eq-default}
 use lib.Seq.{getD-take}
@@ -9,36 +9,30 @@ use Rattle.octets.specs.Lists.{part}
 use Rattle.octets.specs.Octets.{AreOctets}
 use Rattle.octets.proofs.Exits.{below}
 use Rattle.octets.proofs.Parts.{length-part}
-use Rattle.answer.specs.Outcome.{gives}
-use Rattle.answer.specs.Sizes.{maxPacket}
 use Rattle.packet.specs.declared.End.{End}
 use Rattle.packet.specs.declared.End.the-variants.{Peer, Server}
 use Rattle.packet.specs.declared.Kind.{Kind}
 use Rattle.packet.specs.declared.Kind.the-variants.{Challenge, Response, SuccessRequest, FailureRequest, RetryRequest, SuccessResponse, FailureResponse, EapSuccess, EapFailure}
 use Rattle.packet.specs.declared.Packet.{Packet}
 use Rattle.packet.specs.Forms.{challengeNameAt, responseNameAt, Formed, a-challenge, a-response, a-success-request, a-failure-request, a-success-response, a-failure-response, an-eap-success, an-eap-failure}
-use Rattle.packet.specs.Reader.{readPacket}
+use Rattle.packet.specs.Frame.{lengthOf, cutOf}
+use Rattle.packet.specs.Promises.{endOf, FormedReads, ReadsFormed}
 use Rattle.packet.proofs.Sizes.{length-challengePacket, length-success, length-failure}
 use Rattle.packet.proofs.Back.{challenge-back, response-back, tail-size, success-back, failure-back, success-response-back, failure-response-back, eap-success-back, eap-failure-back}
-use Rattle.packet.proofs.Readings.{tells, Shape, endOf}
+use Rattle.packet.proofs.Readings.{tells, Shape}
 
--- a packet of the table is read, whatever follows it
-pub record Taken (end : End) (q : List ℕ) : Type 0 where
-  pub reading : Packet
-  pub reads : (pad : List ℕ) → readPacket end (q ++ pad) ≡ gives reading
-
-pub formed-reads : (end : End) (q : List ℕ) → Formed end q → length q ≤ maxPacket → Taken end q
+pub formed-reads : FormedReads
 formed-reads Peer _ (a-challenge id chapid c name n s) h =
-    record { reading = _; reads = challenge-back id chapid c name n s (omega (arith, length-challengePacket id chapid c name n)) .reads }
-formed-reads Server _ (a-response id chapid p r name n m s) h = record { reading = _; reads = response-back id chapid p r name n m s .reads }
+    record { packet = _; reads = challenge-back id chapid c name n s (omega (arith, length-challengePacket id chapid c name n)) .reads }
+formed-reads Server _ (a-response id chapid p r name n m s) h = record { packet = _; reads = response-back id chapid p r name n m s .reads }
 formed-reads Peer _ (a-success-request id chapid s tail n u) h =
-    record { reading = _; reads = success-back id chapid s tail n u (omega (arith, tail-size tail, length-success id chapid s tail n)) .reads }
+    record { packet = _; reads = success-back id chapid s tail n u (omega (arith, tail-size tail, length-success id chapid s tail n)) .reads }
 formed-reads Peer _ (a-failure-request id chapid e retry c v text f) h =
-    record { reading = _; reads = failure-back id chapid e retry c v text f (omega (arith, length-failure id chapid e (48 + retry) c v text (f .c-size))) .reads }
-formed-reads Server _ (a-success-response id) h = record { reading = _; reads = success-response-back id .reads }
-formed-reads Server _ (a-failure-response id) h = record { reading = _; reads = failure-response-back id .reads }
-formed-reads Peer _ (an-eap-success id) h = record { reading = _; reads = eap-success-back id .reads }
-formed-reads Peer _ (an-eap-failure id) h = record { reading = _; reads = eap-failure-back id .reads }
+    record { packet = _; reads = failure-back id chapid e retry c v text f (omega (arith, length-failure id chapid e (48 + retry) c v text (f .c-size))) .reads }
+formed-reads Server _ (a-success-response id) h = record { packet = _; reads = success-response-back id .reads }
+formed-reads Server _ (a-failure-response id) h = record { packet = _; reads = failure-response-back id .reads }
+formed-reads Peer _ (an-eap-success id) h = record { packet = _; reads = eap-success-back id .reads }
+formed-reads Peer _ (an-eap-failure id) h = record { packet = _; reads = eap-failure-back id .reads }
 
 -- and what is read is one
 pub cut-octets : (p : List ℕ) (l : ℕ) → AreOctets p → AreOctets (take l p)
@@ -65,7 +59,9 @@ shape-formed FailureResponse q x o s = subst (Formed Server) (sym (s .is)) (a-fa
 shape-formed EapSuccess q x o s = subst (Formed Peer) (sym (s .is)) (an-eap-success _)
 shape-formed EapFailure q x o s = subst (Formed Peer) (sym (s .is)) (an-eap-failure _)
 
-pub reads-formed : (end : End) (p : List ℕ) (x : Packet) → AreOctets p → readPacket end p ≡ gives x → Formed end (take (x .length) p)
+pub reads-formed : ReadsFormed
 reads-formed end p x o e =
     let t = tells end p x e in
-    subst (λ (z : End). Formed z (take (x .length) p)) (t .here) (shape-formed (x .kind) (take (x .length) p) x (cut-octets p (x .length) o) (t .shape))
+    let q = cutOf p in
+    let s : Shape (x .kind) q x = subst (λ (n : ℕ). Shape (x .kind) (take n p) x) (t .size) (t .shape) in
+    subst (λ (z : End). Formed z q) (t .here) (shape-formed (x .kind) q x (cut-octets p (lengthOf p) o) s)

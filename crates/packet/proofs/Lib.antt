@@ -1,9 +1,11 @@
 pub mod Alike
 pub mod Apart
 pub mod Back
+pub mod Conditions
 pub mod Ends
 pub mod Exact
 pub mod Frames
+pub mod LetterCase
 pub mod Places
 pub mod Readings
 pub mod Shapes

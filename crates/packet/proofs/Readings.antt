@@ -21,6 +21,7 @@ use Rattle.packet.specs.declared.Kind.{Kind}
 use Rattle.packet.specs.declared.Kind.the-variants.{Challenge, Response, SuccessRequest, FailureRequest, RetryRequest, SuccessResponse, FailureResponse, EapSuccess, EapFailure}
 use Rattle.packet.specs.declared.Packet.{Packet}
 use Rattle.packet.specs.declared.Place.{Place}
+use Rattle.packet.specs.Promises.{endOf, ReadOrRefused, refused-by, read-as, ReaderAnswers, PaddingIgnored}
 use Rattle.packet.specs.Forms.{successResponse, failureResponse, eapSuccess, eapFailure}
 use Rattle.packet.specs.Frame.{codeOf, lengthOf, cutOf, typed}
 use Rattle.packet.specs.Inner.{atPeer, atServer, atEnd}
@@ -28,18 +29,6 @@ use Rattle.packet.specs.Reader.{refusal, chapRow, readChallenge, readRes
 use Rattle.packet.proofs.Frames.{framed-so, framed-whole}
 use Rattle.packet.proofs.Ends.{at-end}
 use Rattle.packet.proofs.Shapes.{passed-on, Head, ChallengeShape, challenge-shape, ResponseShape, response-shape, SuccessShape, success-shape, FailureShape, failure-shape, BareShape, bare-response-shape, bare-eap-shape}
-
--- the end that reads a kind
-abbrev pub endOf : Kind → End
-endOf Challenge = Peer
-endOf Response = Server
-endOf SuccessRequest = Peer
-endOf FailureRequest = Peer
-endOf RetryRequest = Peer
-endOf SuccessResponse = Server
-endOf FailureResponse = Server
-endOf EapSuccess = Peer
-endOf EapFailure = Peer
 
 -- what a reading of a kind tells of the packet q
 abbrev pub Shape : Kind → List ℕ → Packet → Type 0
@@ -53,8 +42,8 @@ Shape FailureResponse q x = BareShape FailureResponse q (failureResponse (getD q
 Shape EapSuccess q x = BareShape EapSuccess q (eapSuccess (getD q 1 0)) x
 Shape EapFailure q x = BareShape EapFailure q (eapFailure (getD q 1 0)) x
 
--- p was read as x at an end
-pub record Tells (end : End) (p : List ℕ) (x : Packet) : Type 0 where
+-- p was read as x at an end, and has the form of x's kind
+pub record Shaped (end : End) (p : List ℕ) (x : Packet) : Type 0 where
   pub size : x .length ≡ numberAt Big p 2
   pub least : 4 ≤ x .length
   pub most : x .length ≤ maxPacket
@@ -117,10 +106,10 @@ module _ (q : List ℕ) (x : Packet) (size : numberAt Big q 2 ≡ length q) wher
       unread 15 x refl)))))
 
 -- ---- what is read
-pub tells : (end : End) (p : List ℕ) (x : Packet) → readPacket end p ≡ gives x → Tells end p x
+pub tells : (end : End) (p : List ℕ) (x : Packet) → readPacket end p ≡ gives x → Shaped end p x
 unfolding readPacket
 tells end p x =
-    framed-so refusal (readCut end) (λ (t : Told Packet). t ≡ gives x → Tells end p x) p (unread 10 x refl) (unread 11 x refl) (unread 12 x refl) (λ f e.
+    framed-so refusal (readCut end) (λ (t : Told Packet). t ≡ gives x → Shaped end p x) p (unread 10 x refl) (unread 11 x refl) (unread 12 x refl) (λ f e.
     let l = lengthOf p in
     let n : length (cutOf p) ≡ l = length-take-le l p (f .inside) in
     let s = leaf-at (cutOf p) x (number-take Big l p 2 (omega (arith, f .least)) ∙ sym n) end (sym (at-end end (cutOf p)) ∙ e) in
@@ -139,24 +128,20 @@ pub read-id : (end : End) (p : List ℕ) (x : Packet) → readPacket end p ≡ g
 read-id end p x e = tells end p x e .id-is
 
 -- ---- a number from 10 to 17, or a packet with the Identifier at 1
-pub data ReadOrRefused (p : List ℕ) : Told Packet → Type 0 where
-  none : (n : ℕ) → 10 ≤ n → n ≤ 17 → ReadOrRefused p (refusal n)
-  some : (x : Packet) → x .id .0 ≡ getD p 1 0 → ReadOrRefused p (gives x)
-
 module _ (end : End) (p : List ℕ) where
   abbrev Case : Told Packet → Type 0
   Case t = readPacket end p ≡ t → ReadOrRefused p t
 
   no : (n : ℕ) → leb 10 n ≡ true → leb n 17 ≡ true → Case (refusal n)
-  no n h l e = none n (leb-true 10 n h) (leb-true n 17 l)
+  no n h l e = refused-by n (leb-true 10 n h) (leb-true n 17 l)
 
   chap-case : (kind : Kind) (q : List ℕ) (formed : Bool) (error : ℕ) (challenge response : Place) (tail : ℕ) → Case (chapRow kind q formed error challenge response tail)
   unfolding chapRow
-  chap-case kind q formed error challenge response tail = arms Case _ (no 16 refl refl) (arms Case _ (no 17 refl refl) (λ e. some _ (read-id end p _ e)))
+  chap-case kind q formed error challenge response tail = arms Case _ (no 16 refl refl) (arms Case _ (no 17 refl refl) (λ e. read-as _ (read-id end p _ e)))
 
   bare-case : (kind : Kind) (l : ℕ) (q : List ℕ) → Case (readBare kind l q)
   unfolding readBare
-  bare-case kind l q = arms Case _ (no 17 refl refl) (λ e. some _ (read-id end p _ e))
+  bare-case kind l q = arms Case _ (no 17 refl refl) (λ e. read-as _ (read-id end p _ e))
 
   row-case : (code op : ℕ) (q : List ℕ) → Case (rowOf code op q)
   unfolding rowOf readChallenge readSuccess readFailure readResponse failureRow
@@ -165,24 +150,27 @@ module _ (end : End) (p : List ℕ) where
       (arms Case _ (arms Case _ (chap-case _ q _ _ _ _ _) (arms Case _ (bare-case _ 6 q) (arms Case _ (bare-case _ 6 q) (no 15 refl refl))))
       (arms Case _ (bare-case _ 4 q) (bare-case _ 4 q)))
 
-  pub read-or-refused : ReadOrRefused p (readPacket end p)
+  answer-case : ReadOrRefused p (readPacket end p)
   unfolding readPacket readCut typed opened
-  read-or-refused =
+  answer-case =
       framed-so refusal (readCut end) Case p (no 10 refl refl) (no 11 refl refl) (no 12 refl refl)
       (λ _. arms Case _ (no 13 refl refl) (arms Case _ (no 14 refl refl) (arms Case _ (no 15 refl refl) (row-case _ _ (cutOf p))))) refl
+
+pub read-or-refused : ReaderAnswers
+read-or-refused end p = answer-case end p
 
 -- L is within 1,020, whatever the answer
 pub read-within : (end : End) (p : List ℕ) → readPacket end p .value .length ≤ maxPacket
 read-within end p = go (read-or-refused end p) refl
   where
     go : {t : Told Packet} → ReadOrRefused p t → readPacket end p ≡ t → t .value .length ≤ maxPacket
-    go (none n h l) e = omega arith
-    go (some x i) e = tells end p x e .most
+    go (refused-by n h l) e = omega arith
+    go (read-as x i) e = tells end p x e .most
 
 -- ---- octets after L are padding
-pub padding : (end : End) (p pad : List ℕ) → 4 ≤ numberAt Big p 2 → numberAt Big p 2 ≤ length p → readPacket end (take (numberAt Big p 2) p ++ pad) ≡ readPacket end p
+pub padding-ignored : PaddingIgnored
 unfolding readPacket
-padding end p pad h k =
+padding-ignored end p pad h k =
     let l = numberAt Big p 2 in
     let q = take l p in
     let n : length q ≡ l = length-take-le l p k in
@@ -193,4 +181,4 @@ padding end p pad h k =
 pub read-padded : (end : End) (p : List ℕ) (x : Packet) (pad : List ℕ) → readPacket end p ≡ gives x → readPacket end (take (x .length) p ++ pad) ≡ gives x
 read-padded end p x pad e =
     let t = tells end p x e in
-    ap (λ (n : ℕ). readPacket end (take n p ++ pad)) (t .size) ∙ padding end p pad (rw (t .size) at (t .least)) (rw (t .size) at (t .inside)) ∙ e
+    ap (λ (n : ℕ). readPacket end (take n p ++ pad)) (t .size) ∙ padding-ignored end p pad (rw (t .size) at (t .least)) (rw (t .size) at (t .inside)) ∙ e

@@ -17,24 +17,16 @@ use Rattle.packet.specs.declared.Packet.{Packet}
 use Rattle.packet.specs.declared.Place.{Place}
 use Rattle.packet.specs.Forms.{wordE, wordR, wordC, wordV, wordM}
 use Rattle.packet.specs.Frame.{lengthOf, framed, typed}
+use Rattle.packet.specs.Promises.{Renumbered, same-refusal, same-packet, ReadRenumbered}
 use Rattle.packet.specs.Reader.{refusal, reading, place, nowhere, chapRow, challengeFormed, readChallenge, responseFormed, readResponse, successFormed, textAt, readSuccess, failureFormed, failureOf, failureRow, errorDigits, readFailure, readBare, rowOf, opened, readCut, readPacket}
 use Rattle.packet.proofs.Frames.{neither}
-
--- x under the Identifier i
-abbrev pub under : ℕ → Packet → Packet
-under i x = reading (x .kind) i (x .chapid .0) (x .length) (x .error) (x .challenge) (x .response) (x .tail)
-
--- the same refusal, or the same packet under i and under j
-pub data Renumbered (i j : ℕ) (t t′ : Told Packet) : Type 0 where
-  none : (n : ℕ) → eqb n 0 ≡ false → t ≡ refusal n → t′ ≡ refusal n → Renumbered i j t t′
-  some : (x : Packet) → t ≡ gives (under i x) → t′ ≡ gives (under j x) → Renumbered i j t t′
 
 module _ (i j : ℕ) where
   abbrev R : Told Packet → Told Packet → Type 0
   R t t′ = Renumbered i j t t′
 
   no : (n : ℕ) → eqb n 0 ≡ false → R (refusal n) (refusal n)
-  no n z = none n z refl refl
+  no n z = same-refusal n z refl refl
 
   -- the same test
   ways : (b : Bool) {t t′ u u′ : Told Packet} → R t t′ → (b ≡ false → R u u′) → R (pick b t u) (pick b t′ u′)
@@ -66,12 +58,12 @@ module _ (i j : ℕ) where
     chap-alike : (kind : Kind) (formed : Bool) (error : ℕ) (challenge response : Place) (tail : ℕ) → 2 ≤ tail → R (chapRow kind q formed error challenge response tail) (chapRow kind q′ formed error challenge response tail)
     unfolding chapRow numberAt
     chap-alike kind formed error challenge response tail h =
-        both _ (no 16 refl) (both _ (no 17 refl) (some (reading kind 0 (getD y 4 0) (length q) error challenge response (place tail (length (drop tail q′))))
+        both _ (no 16 refl) (both _ (no 17 refl) (same-packet (reading kind 0 (getD y 4 0) (length q) error challenge response (place tail (length (drop tail q′))))
         (λ k. gives (reading kind i (getD y 4 0) (length q) error challenge response (place tail (length (drops tail h k))))) refl))
 
     bare-alike : (kind : Kind) (l : ℕ) → R (readBare kind l q) (readBare kind l q′)
     unfolding readBare
-    bare-alike kind l = both _ (no 17 refl) (some (reading kind 0 0 (length q) 0 nowhere nowhere nowhere) refl refl)
+    bare-alike kind l = both _ (no 17 refl) (same-packet (reading kind 0 0 (length q) 0 nowhere nowhere nowhere) refl refl)
 
     stands : (n : ℕ) (w : List ℕ) → 2 ≤ n → standsAt q n w ≡ standsAt q′ n w
     unfolding standsAt
@@ -115,10 +107,13 @@ module _ (i j : ℕ) where
   cut-past c n (suc zero) x h = absurd (omega arith)
   cut-past c n (suc (suc l)) x h = let e : l ≡ suc (suc l) - 2 = omega arith in ap (λ (m : ℕ). c ∷ n ∷ take m x) e
 
-  pub read-renumbered : (end : End) (c : ℕ) (x : List ℕ) → Renumbered i j (readPacket end (c ∷ i ∷ x)) (readPacket end (c ∷ j ∷ x))
+  renumbered : (end : End) (c : ℕ) (x : List ℕ) → R (readPacket end (c ∷ i ∷ x)) (readPacket end (c ∷ j ∷ x))
   unfolding readPacket framed numberAt
-  read-renumbered end c x =
+  renumbered end c x =
       let l = lengthOf (c ∷ i ∷ x) in
       both _ (no 10 refl) (ways _ (no 11 refl) (λ b. both _ (no 12 refl)
       (let h : 4 ≤ l = ltb-false _ _ (neither _ _ b .0) in
       rw (cut-past c i l x (omega arith), cut-past c j l x (omega arith)) (cut-alike c (take (l - 2) x) end))))
+
+pub read-renumbered : ReadRenumbered
+read-renumbered i j end c x = renumbered i j end c x

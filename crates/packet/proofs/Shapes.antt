@@ -23,7 +23,7 @@ use Rattle.packet.specs.declared.Place.{Place}
 use Rattle.answer.specs.Outcome.{Told, gives}
 use Rattle.answer.specs.Sizes.{maxName}
 use Rattle.packet.specs.Forms.{challengeNameAt, responseNameAt, successTailAt, successTextAt, wordS, wordE, wordR, wordC, wordV, wordM, eightZeros, tailOctets, successMessage, FailureSpelling, failureMessage, header, chapPacket, challengePacket, responsePacket}
-use Rattle.packet.specs.Promises.{tailIn}
+use Rattle.packet.specs.Learned.{tailIn}
 use Rattle.packet.proofs.Frames.{neither}
 use Rattle.packet.specs.Reader.{challengePlace, ntResponsePlace, stringPlace, refusal, reading, place, nowhere, chapRow, challengeFormed, readChallenge, responseFormed, readResponse, successFormed, textAt, readSuccess, failureFormed, failureOf, failureRow, readFailure, readBare}
 

@@ -21,7 +21,8 @@ use Rattle.packet.specs.declared.Packet.{Packet}
 use Rattle.packet.specs.Kinds.{isKind, isRequest}
 use Rattle.packet.specs.Reader.{readPacket}
 use Rattle.packet.proofs.Apart.{kind-so}
-use Rattle.packet.proofs.Readings.{ReadOrRefused, none, some, read-or-refused}
+use Rattle.packet.specs.Promises.{ReadOrRefused, refused-by as none, read-as as some}
+use Rattle.packet.proofs.Readings.{read-or-refused}
 use Rattle.peer.specs.declared.Stage.{Stage}
 use Rattle.peer.specs.declared.Stage.the-variants.{Begin, ChallengeResponseSent, SuccessResponseSent, FailureResponseSent, Waiting, Success, Failed}
 use Rattle.peer.specs.declared.Peer.{Peer}

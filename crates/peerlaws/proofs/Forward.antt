@@ -22,7 +22,7 @@ use Rattle.packet.specs.declared.Packet.{Packet}
 use Rattle.packet.specs.Forms.{successResponse, failureResponse}
 use Rattle.packet.specs.Kinds.{isRequest}
 use Rattle.packet.specs.Reader.{readPacket}
-use Rattle.packet.specs.Promises.{successReading}
+use Rattle.packet.specs.Learned.{successReading}
 use Rattle.packet.proofs.Sizes.{length-success}
 use Rattle.packet.proofs.Back.{tail-size, success-back}
 use Rattle.packet.proofs.Readings.{Shape, tells, read-id}

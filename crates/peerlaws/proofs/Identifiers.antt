@@ -19,7 +19,8 @@ use Rattle.packet.specs.declared.Packet.{Packet}
 use Rattle.packet.specs.Reader.{refusal, readPacket, challengeIn}
 use Rattle.packet.specs.Forms.{header, chapPacket, responsePacket, successResponse, failureResponse}
 use Rattle.packet.proofs.Readings.{Shape, tells}
-use Rattle.packet.proofs.Renumbered.{under, Renumbered, none, some, read-renumbered}
+use Rattle.packet.specs.Promises.{under, Renumbered, same-refusal as none, same-packet as some}
+use Rattle.packet.proofs.Renumbered.{read-renumbered}
 use Rattle.peer.specs.declared.Stage.{Stage}
 use Rattle.peer.specs.declared.Stage.the-variants.{ChallengeResponseSent, SuccessResponseSent, FailureResponseSent, Waiting}
 use Rattle.peer.specs.declared.Peer.{Peer}

@@ -25,7 +25,8 @@ use Rattle.peer.specs.declared.Peer.{Peer}
 use Rattle.peer.specs.State.{lastRequest, lastReply, responseTo, staged, answered, responded, awaiting, supplied as suppliedState}
 use Rattle.peer.specs.Moves.{takes, sent, repeats, turnOf}
 use Rattle.peer.specs.Calls.{answerOf, leftBy, movedOf, turnIn, takenOf, readOf, stepOf, responseBy}
-use Rattle.packet.proofs.Readings.{ReadOrRefused, none as unread, some, read-or-refused}
+use Rattle.packet.specs.Promises.{ReadOrRefused, refused-by as unread, read-as as some}
+use Rattle.packet.proofs.Readings.{read-or-refused}
 use Rattle.peerlaws.specs.Exact.{Repeats, responseIn}
 use Rattle.peerlaws.specs.Runs.{Call, step, supply, giveUp, callOf}
 use Rattle.peerlaws.specs.Promises.{Leaves, written, credentials, authenticated, ended, refusal, AnswersLeave, Confirms, SuccessOnlyIfRight, NoPacketTaken}

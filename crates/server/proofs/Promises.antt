@@ -17,7 +17,8 @@ use Rattle.answer.specs.declared.Identifier.{Identifier}
 use Rattle.packet.specs.declared.End.the-variants as end
 use Rattle.packet.specs.Forms.{header, chapPacket, challengePacket, successRequest, failureRequest, eapSuccess, eapFailure}
 use Rattle.packet.specs.Reader.{readPacket}
-use Rattle.packet.proofs.Readings.{ReadOrRefused, none, some, read-or-refused}
+use Rattle.packet.specs.Promises.{ReadOrRefused, refused-by as none, read-as as some}
+use Rattle.packet.proofs.Readings.{read-or-refused}
 use Rattle.verdict.specs.declared.Verdict.{Verdict}
 use Rattle.server.specs.declared.Failure.{Failure}
 use Rattle.server.specs.declared.Stage.{Stage}

@@ -13,7 +13,8 @@ use Rattle.answer.proofs.Told.{told-refuses}
 use Rattle.packet.specs.declared.End.the-variants as end
 use Rattle.packet.specs.declared.Packet.{Packet}
 use Rattle.packet.specs.Reader.{noPacket, readPacket}
-use Rattle.packet.proofs.Readings.{ReadOrRefused, none, some, read-or-refused, read-id}
+use Rattle.packet.specs.Promises.{ReadOrRefused, refused-by as none, read-as as some}
+use Rattle.packet.proofs.Readings.{read-or-refused, read-id}
 use Rattle.server.specs.declared.Stage.{Stage}
 use Rattle.server.specs.declared.Server.{Server}
 use Rattle.server.specs.Moves.{takes, misnumbered, turnRefusal, turnOf, Taken}
