@@ -1,1 +1,1 @@
-// The marked cases of document 01: a statement and its proof, and no code of its own.
+// The promises on one page: statements and their proofs, and no code of its own.

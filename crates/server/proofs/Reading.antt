@@ -21,7 +21,8 @@ use Rattle.answer.proofs.Outcomes.{fitting-so}
 use Rattle.packet.specs.declared.End.the-variants as end
 use Rattle.packet.specs.declared.Packet.{Packet}
 use Rattle.packet.specs.Reader.{failureOf, readPacket}
-use Rattle.packet.proofs.Back.{Back, challenge-back, success-request-back, failure-request-back, eap-success-back, eap-failure-back}
+use Rattle.packet.specs.Learned.{Learned, learned}
+use Rattle.packet.proofs.Back.{Back, learns, challenge-back, success-request-back, failure-request-back, eap-success-back, eap-failure-back}
 use Rattle.packet.proofs.Readings.{tells}
 use Rattle.packet.proofs.Sizes.{length-challengePacket, length-successRequest, length-failureRequest-60}
 use Rattle.accounts.specs.Accounts.{isCode}
@@ -32,7 +33,7 @@ use Rattle.server.specs.declared.Failure.{Failure}
 use Rattle.server.specs.declared.Stage.{Stage}
 use Rattle.server.specs.declared.Stage.the-variants.{ChallengeSent}
 use Rattle.server.specs.declared.Server.{Server}
-use Rattle.server.specs.State.{requestRoom, storedRequest, nextId, chapOf, retryDigit, initial, asked, staged}
+use Rattle.server.specs.State.{requestRoom, storedRequest, chapOf, retryDigit, initial, asked, staged}
 use Rattle.server.specs.Moves.{sent}
 use Rattle.server.specs.Calls.{verdictOf}
 use Rattle.server.specs.Runs.{Call, replyOf, outcomeOf, Answered, answered, left, serverStep, Lent, AllLent}
@@ -73,39 +74,38 @@ denied-three x (again n) = (omega arith, omega arith)
 denied-three x (last e) = (omega arith, omega arith)
 
 -- ---- the packets meant
-reads-so : {q : List ℕ} {x : Packet} {c r t : List ℕ} → Back end.Peer q x c r t → length q ≡ x .length → PeerReads q x c r t
-reads-so b e = record { reads = b .reads; challenge-is = b .challenge-is; response-is = b .response-is; tail-is = b .tail-is; size = sym e }
+reads-so : {q : List ℕ} {x : Packet} {c r t : List ℕ} → Back end.Peer q x c r t → length q ≡ x .length → PeerReads q (learned x c r t)
+reads-so b e = record { learns = learns b; size = sym e }
 
 challenge-meant : (id : Identifier) (challenge name : List ℕ) → length challenge ≡ 16 → (1 ≤ length name) × (length name ≤ maxName) → ChallengeMeant id challenge name
 unfolding chapOf
 challenge-meant id challenge name z n =
     reads-so (challenge-back (id .0) (id .0) challenge name z (n .0) (omega (arith, n .1))) (length-challengePacket (id .0) (id .0) challenge name z)
 
-success-meant : (s : Server) (string : List ℕ) → AreOctets string → SuccessMeant s string
+success-meant : (id : Identifier) (string : List ℕ) → AreOctets string → SuccessMeant id string
 unfolding chapOf
-success-meant s string o =
-    reads-so (success-request-back (nextId (s .request .id) .0) (nextId (s .request .id) .0) string [] o (omega arith)) (length-successRequest _ _ string [])
+success-meant id string o = reads-so (success-request-back (id .0) (id .0) string [] o (omega arith)) (length-successRequest _ _ string [])
 
-failure-meant : (s : Server) (f : Failure) (fresh : List ℕ) → (100 ≤ f .error) × (f .error ≤ 999) → AreOctets fresh → FailureMeant s f fresh
+failure-meant : (id : Identifier) (f : Failure) (fresh : List ℕ) → (100 ≤ f .error) × (f .error ≤ 999) → AreOctets fresh → FailureMeant id f fresh
 unfolding chapOf
-failure-meant s f fresh c o =
+failure-meant id f fresh c o =
     let e : length (decimal (f .error)) ≡ 3 = length-decimal-3 (f .error) (c .0) (c .1) in
     reads-so
-    (rw e at (failure-request-back (nextId (s .request .id) .0) (nextId (s .request .id) .0) (f .error) (retryDigit (f .retry)) fresh [] (omega (arith, c .1)) (digit-few (f .retry) _ refl) o (rw e (omega arith))))
+    (rw e at (failure-request-back (id .0) (id .0) (f .error) (retryDigit (f .retry)) fresh [] (omega (arith, c .1)) (digit-few (f .retry) _ refl) o (rw e (omega arith))))
     (length-failureRequest-60 _ _ (f .error) (retryDigit (f .retry)) fresh (c .0) (c .1))
 
 -- what each move writes
 pub moves-read-back : MovesReadBack
 moves-read-back s c o z (starting {id} {challenge} {name} b f) = challenge-meant id challenge name z (f .some, f .few)
-moves-read-back s c o z (granting string v) = success-meant s string (string-octets v)
-moves-read-back s c o z (denying v f x d n) = failure-meant s f _ (denied-three x d) (z .1)
+moves-read-back s c o z (granting string v) = success-meant _ string (string-octets v)
+moves-read-back s c o z (denying v f x d n) = failure-meant _ f _ (denied-three x d) (z .1)
 moves-read-back s c o z (confirming x t) = reads-so (eap-success-back (x .id .0)) refl
 moves-read-back s c o z (ending x t) = reads-so (eap-failure-back (x .id .0)) refl
 moves-read-back s c o z (resending e) = tt
 
 -- ---- "n equals the written packet's L"
-size-of : {q : List ℕ} (pad : List ℕ) {k : Packet} {c r t : List ℕ} → PeerReads q k c r t → length q ≡ numberAt Big (q ++ pad) 2
-size-of {q} pad {k} b = sym (b .size) ∙ tells end.Peer (q ++ pad) k (b .reads pad) .size
+size-of : {q : List ℕ} (pad : List ℕ) {l : Learned} → PeerReads q l → length q ≡ numberAt Big (q ++ pad) 2
+size-of {q} pad {l} b = sym (b .size) ∙ tells end.Peer (q ++ pad) (l .packet) (b .learns pad .reads) .size
 
 pub count-is-length : CountIsLength
 unfolding serverStep
@@ -113,19 +113,19 @@ count-is-length s c z a = by-moves (λ (o : Outcome Server). o .number ≤ 3 →
   where
     go : {c : Call (List ℕ)} {o : Outcome Server} → Moves s c o → Lent c → Asks c → answered o (replyOf c) .n ≡ numberAt Big (answered o (replyOf c) .reply) 2
     go (starting {id} {challenge} {name} b f) z a = size-of _ (challenge-meant id challenge name z (f .some, f .few))
-    go (granting string v) z a = size-of _ (success-meant s string (string-octets v))
-    go (denying {fresh = fresh} v f x d n) z a = size-of _ (failure-meant s f fresh (denied-three x d) (z .1))
+    go (granting string v) z a = size-of _ (success-meant _ string (string-octets v))
+    go (denying {fresh = fresh} v f x d n) z a = size-of _ (failure-meant _ f fresh (denied-three x d) (z .1))
     go (confirming x t) z a = size-of _ (reads-so (eap-success-back (x .id .0)) refl)
     go (ending x t) z a = size-of _ (reads-so (eap-failure-back (x .id .0)) refl)
     go (resending e) z a = absurd a
 
 -- ---- the outstanding request
-outstanding-asked : (stage : Stage) (id : Identifier) (challenge : List ℕ) (retries : ℕ) (q : List ℕ) (s : Server) {k : Packet} {c r t : List ℕ} → PeerReads q k c r t → length q ≤ requestRoom
-    → Waits stage (k .kind) → k .id .0 ≡ id .0 → k .chapid .0 ≡ id .0 → Outstanding (asked stage id challenge retries q s)
+outstanding-asked : (stage : Stage) (id : Identifier) (challenge : List ℕ) (retries : ℕ) (q : List ℕ) (s : Server) {l : Learned} → PeerReads q l → length q ≤ requestRoom
+    → Waits stage (l .packet .kind) → l .packet .id .0 ≡ id .0 → l .packet .chapid .0 ≡ id .0 → Outstanding (asked stage id challenge retries q s)
 unfolding asked chapOf
-outstanding-asked stage id challenge retries q s {k} b l w i h =
-    let e = stored-asked stage id challenge retries q s l in
-    record { packet = k; reads = λ pad. rw e (b .reads pad); waits = w; id = i; chapid = h; size = rw e (b .size) }
+outstanding-asked stage id challenge retries q s {l} b m w i h =
+    let e = stored-asked stage id challenge retries q s m in
+    record { packet = l .packet; reads = λ pad. rw e (b .learns pad .reads); waits = w; id = i; chapid = h; size = rw e (b .size) }
 
 -- the kind of a Failure Request is the one that its stage waits with
 denied-waits : {s : Server} {v : Verdict} {f : Failure} → s .stage ≡ ChallengeSent → Denies s v f → Waits (f .stage) (failureOf (retryDigit (f .retry)))
@@ -140,9 +140,9 @@ module _ (s : Server) (before : sent (s .stage) ≡ true → Outstanding s) wher
   outstanding-after (starting {id} {challenge} {name} b f) z g =
       let n : (1 ≤ length name) × (length name ≤ maxName) = (f .some, f .few) in
       outstanding-asked _ _ _ _ _ s (challenge-meant id challenge name z n) (challenge-fits _ _ challenge name z n .1) (inl refl) refl refl
-  outstanding-after (granting string v) z g = outstanding-asked _ _ _ _ _ s (success-meant s string (string-octets v)) (success-fits _ _ string .1) refl refl refl
+  outstanding-after (granting string v) z g = outstanding-asked _ _ _ _ _ s (success-meant _ string (string-octets v)) (success-fits _ _ string .1) refl refl refl
   outstanding-after (denying {fresh = fresh} v f x d n) z g =
-      outstanding-asked _ _ _ _ _ s (failure-meant s f fresh (denied-three x d) (z .1)) (failure-fits _ _ (f .error) (retryDigit (f .retry)) fresh .1) (denied-waits (x .taken .stage) d) refl refl
+      outstanding-asked _ _ _ _ _ s (failure-meant _ f fresh (denied-three x d) (z .1)) (failure-fits _ _ (f .error) (retryDigit (f .retry)) fresh .1) (denied-waits (x .taken .stage) d) refl refl
   outstanding-after (confirming x t) z g = clash refl g
   outstanding-after (ending x t) z g = clash refl g
   outstanding-after (resending e) z g = before g

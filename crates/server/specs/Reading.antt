@@ -14,8 +14,9 @@ use Rattle.packet.specs.declared.End.the-variants as end
 use Rattle.packet.specs.declared.Kind.{Kind}
 use Rattle.packet.specs.declared.Kind.the-variants as kind
 use Rattle.packet.specs.declared.Packet.{Packet}
-use Rattle.packet.specs.Forms.{eapSuccess, eapFailure}
-use Rattle.packet.specs.Reader.{at, failureOf, readPacket, reading, place, nowhere}
+use Rattle.packet.specs.Forms.{with-text, eapSuccess, eapFailure}
+use Rattle.packet.specs.Learned.{Learned, Learns, learned, challengeLearned, successReading, failureReading, bareLearned}
+use Rattle.packet.specs.Reader.{readPacket}
 use Rattle.server.specs.declared.Failure.{Failure}
 use Rattle.server.specs.declared.Stage.{Stage}
 use Rattle.server.specs.declared.Stage.the-variants.{Begin, ChallengeSent, SuccessRequestSent, FailureRequestSent, Success, Failed}
@@ -26,39 +27,32 @@ use Rattle.server.specs.Runs.{Call, resends, serverStep, Lent, Reached}
 use Rattle.server.specs.Effects.{Moves, starting, granting, denying, confirming, ending, resending}
 use Rattle.server.specs.Promises.{Asks}
 
--- ---- the peer's reader takes q for x, whatever padding follows, and these octets stand at the places of x. L is the length of q, which is n
-pub record PeerReads (q : List ℕ) (x : Packet) (challenge response tail : List ℕ) : Type 0 where
-  pub reads : (pad : List ℕ) → readPacket end.Peer (q ++ pad) ≡ gives x
-  pub challenge-is : (pad : List ℕ) → at (q ++ pad) (x .challenge) ≡ challenge
-  pub response-is : (pad : List ℕ) → at (q ++ pad) (x .response) ≡ response
-  pub tail-is : (pad : List ℕ) → at (q ++ pad) (x .tail) ≡ tail
-  pub size : x .length ≡ length q
+-- ---- the peer's end reads q, whatever padding follows, and learns l of it; L is the length of q, which is n
+pub record PeerReads (q : List ℕ) (l : Learned) : Type 0 where
+  pub learns : (pad : List ℕ) → Learns end.Peer (q ++ pad) l
+  pub size : l .packet .length ≡ length q
 
 abbrev pub ChallengeMeant : Identifier → List ℕ → List ℕ → Type 0
-ChallengeMeant id challenge name =
-    PeerReads (challengeTo id challenge name)
-    (reading kind.Challenge (id .0) (id .0) (26 + length name) 0 (place 10 16) nowhere (place 26 (length name))) challenge [] name
+ChallengeMeant id challenge name = PeerReads (challengeTo id challenge name) (challengeLearned (id .0) (id .0) challenge name)
 
--- L = 54
-abbrev pub SuccessMeant : Server → List ℕ → Type 0
-SuccessMeant s string =
-    PeerReads (successTo (nextId (s .request .id)) string)
-    (reading kind.SuccessRequest (nextId (s .request .id) .0) (nextId (s .request .id) .0) 54 0 nowhere (place 11 40) (place 54 0)) [] (cells 40 (hexAt string)) []
+-- under the next Identifier. L = 54
+abbrev pub SuccessMeant : Identifier → List ℕ → Type 0
+SuccessMeant id string = PeerReads (successTo id string) (learned (successReading (id .0) (id .0) (with-text [])) [] (cells 40 (hexAt string)) [])
 
--- L = 60
-abbrev pub FailureMeant : Server → Failure → List ℕ → Type 0
-FailureMeant s f fresh =
-    PeerReads (failureTo (nextId (s .request .id)) (f .error) (retryDigit (f .retry)) fresh)
-    (reading (failureOf (retryDigit (f .retry))) (nextId (s .request .id) .0) (nextId (s .request .id) .0) 60 (f .error) (place 21 32) nowhere (place 60 0)) (cells 32 (hexAt fresh)) [] []
+-- E has three digits, and the text, which is empty, starts at L = 60
+abbrev pub FailureMeant : Identifier → Failure → List ℕ → Type 0
+FailureMeant id f fresh =
+    PeerReads (failureTo id (f .error) (retryDigit (f .retry)) fresh)
+    (learned (failureReading (id .0) (id .0) (f .error) (retryDigit (f .retry)) 3 60 []) (cells 32 (hexAt fresh)) [] [])
 
 -- the packet that a move writes. A resend writes what is stored
 module _ (s : Server) where
   abbrev pub Meant : {c : Call (List ℕ)} {o : Outcome Server} → Moves s c o → Type 0
   Meant (starting {id} {challenge} {name} b f) = ChallengeMeant id challenge name
-  Meant (granting string v) = SuccessMeant s string
-  Meant (denying {fresh = fresh} v f x d n) = FailureMeant s f fresh
-  Meant (confirming x t) = PeerReads (eapSuccess (x .id .0)) (reading kind.EapSuccess (x .id .0) 0 4 0 nowhere nowhere nowhere) [] [] []
-  Meant (ending x t) = PeerReads (eapFailure (x .id .0)) (reading kind.EapFailure (x .id .0) 0 4 0 nowhere nowhere nowhere) [] [] []
+  Meant (granting string v) = SuccessMeant (nextId (s .request .id)) string
+  Meant (denying {fresh = fresh} v f x d n) = FailureMeant (nextId (s .request .id)) f fresh
+  Meant (confirming x t) = PeerReads (eapSuccess (x .id .0)) (bareLearned kind.EapSuccess (x .id .0) 4)
+  Meant (ending x t) = PeerReads (eapFailure (x .id .0)) (bareLearned kind.EapFailure (x .id .0) 4)
   Meant (resending e) = Unit {0}
 
 abbrev pub MovesReadBack : Type 0

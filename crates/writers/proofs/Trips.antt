@@ -1,16 +1,15 @@
--- What the writers write reads back.
+-- What the writers answer, and that what they write reads back.
 use Prim.Native.Nat.{ℕ, _≤_}
-use mathlib.Core.Path.{_≡_, refl, sym, ap, _∙_}
+use mathlib.Core.Path.{_≡_, refl, sym, _∙_}
 use mathlib.Core.List.{List}
-use mathlib.Core.Bool.{Bool, true, false, not}
+use mathlib.Core.Bool.{Bool, true, not}
 use native.Mathlib.Omega.{arith}
 use lib.ListN.{length, drop}
-use lib.Dec.{ltb, leb, eqb}
-use borrow.Author.Tests.{ltb-false, leb-true, not-false}
-use Rattle.octets.specs.Choice.{pick}
+use lib.Dec.{ltb, leb}
+use borrow.Author.Tests.{ltb-true, ltb-false, leb-true, not-true, not-false}
 use Rattle.octets.specs.Octets.{decimal}
-use Rattle.octets.proofs.Exits.{pick-true, pick-false, both, tested}
-use Rattle.answer.specs.Outcome.{Outcome, outcome, refused, fitting, Does}
+use Rattle.octets.proofs.Exits.{picked, both}
+use Rattle.answer.specs.Outcome.{Outcome, outcome, fitting, Does}
 use Rattle.answer.specs.Sizes.{maxPacket}
 use Rattle.answer.proofs.Outcomes.{fitting-so}
 use Rattle.packet.specs.declared.End.{End}
@@ -20,33 +19,34 @@ use Rattle.packet.specs.Learned.{Learns, learned}
 use Rattle.packet.proofs.Sizes.{length-challengePacket, length-responsePacket, length-successRequest, length-failureRequest}
 use Rattle.packet.proofs.Places.{reading-tells}
 use Rattle.packet.proofs.Back.{Back, learns, challenge-back, response-back, success-request-back, failure-request-back, challenge-again, success-response-back, failure-response-back, eap-success-back, eap-failure-back}
-use Rattle.writers.specs.Promises.{ReadsBack, WritersReadBack}
+use Rattle.writers.specs.Promises.{Writes, no-form, too-long, no-room, writes, WritersAnswer, ReadsBack, WritersReadBack}
 use Rattle.writers.specs.Writers.{writing}
 use Rattle.writers.proofs.Writing.{writing-so}
 
--- answer 0 means that there is a form and room for it
-passed : (b : Bool) (k : ℕ) (rest : Outcome (Unit {0})) → eqb k 0 ≡ false → pick b (refused k tt) rest .number ≡ 0 → (b ≡ false) × (rest .number ≡ 0)
-passed b k rest z e =
-    tested b
-    (λ t.
-    let n : k ≡ 0 = sym (ap (λ (o : Outcome (Unit {0})). o .number) (pick-true b (refused k tt) rest t)) ∙ e in
-    let w : eqb 0 0 ≡ false = rw n at z in
-    let y : _≡_ {A = ℕ} 0 1 = cc in
-    absurd (omega arith))
-    (λ t. (t, sym (ap (λ (o : Outcome (Unit {0})). o .number) (pick-false b (refused k tt) rest t)) ∙ e))
+pub writers-answer : WritersAnswer
+unfolding writing fitting
+writers-answer formed room q =
+    let P : Outcome (Unit {0}) → Type 0 = Writes formed room q in
+    picked P (not formed) (λ e. no-form (not-true formed e))
+    (λ e.
+    let f = not-false formed e in
+    picked P (ltb maxPacket (length q)) (λ l. too-long f (ltb-true _ _ l))
+    (λ l. picked P (ltb room (length q)) (λ r. no-room f (ltb-false _ _ l) (ltb-true _ _ r)) (λ r. writes f (ltb-false _ _ l) (ltb-false _ _ r))))
 
+-- answer 0 means that there is a form and room for it
 pub record Takes (formed : Bool) (room : ℕ) (q : List ℕ) : Type 0 where
   pub form : formed ≡ true
   pub most : length q ≤ maxPacket
   pub fits : length q ≤ room
 
-pub takes : (formed : Bool) (room : ℕ) (q : List ℕ) → writing formed room q .number ≡ 0 → Takes formed room q
-unfolding writing fitting
-takes formed room q e =
-    let a = passed (not formed) 23 _ refl e in
-    let b = passed (ltb maxPacket (length q)) 23 _ refl (a .1) in
-    let c = passed (ltb room (length q)) 20 _ refl (b .1) in
-    record { form = not-false formed (a .0); most = ltb-false _ _ (b .0); fits = ltb-false _ _ (c .0) }
+takes : (formed : Bool) (room : ℕ) (q : List ℕ) → writing formed room q .number ≡ 0 → Takes formed room q
+takes formed room q = go (writers-answer formed room q)
+  where
+    go : {o : Outcome (Unit {0})} → Writes formed room q o → o .number ≡ 0 → Takes formed room q
+    go (no-form f) e = absurd (omega arith)
+    go (too-long f l) e = absurd (omega arith)
+    go (no-room f l r) e = absurd (omega arith)
+    go (writes f l r) e = record { form = f; most = l; fits = r }
 
 module _ (formed : Bool) (end : End) (q : List ℕ) (x : Packet) (c r t : List ℕ) (size : length q ≡ x .length) where
   trip : (n : ℕ) (old after : List ℕ) → (Takes formed (length old) q → Back end q x c r t) → Does (writing formed (length old) q) 0 n tt old after → ReadsBack end after n (learned x c r t)

@@ -1,19 +1,32 @@
--- What the writers write reads back.
-use Prim.Native.Nat.{ℕ, _+_}
+-- What the writers answer, and that what they write reads back.
+use Prim.Native.Nat.{ℕ, _+_, _≤_, _<_}
 use mathlib.Core.Path.{_≡_}
+use mathlib.Core.Bool.{Bool, true, false}
 use mathlib.Core.List.{List, []}
 use lib.ListN.{length}
 use Rattle.octets.specs.Lists.{cells}
 use Rattle.octets.specs.Octets.{AreOctets, hexAt, decimal}
-use Rattle.answer.specs.Outcome.{Outcome, Does}
+use Rattle.answer.specs.Outcome.{Outcome, outcome, refused, Does}
+use Rattle.answer.specs.Sizes.{maxPacket}
 use Rattle.packet.specs.declared.End.{End}
 use Rattle.packet.specs.declared.End.the-variants.{Peer, Server}
 use Rattle.packet.specs.declared.Kind.the-variants.{SuccessResponse, FailureResponse, EapSuccess, EapFailure}
 use Rattle.packet.specs.Forms.{with-text}
 use Rattle.packet.specs.Frame.{lengthOf}
 use Rattle.packet.specs.Learned.{Learned, Learns, sixteenOf, learned, challengeLearned, responseLearned, successReading, failureReading, bareLearned}
-use Rattle.writers.specs.Writers.{writeChallenge, writeResponse, writeSuccessRequest, writeFailureRequest, writeSuccessResponse, writeFailureResponse, writeEapSuccess, writeEapFailure}
+use Rattle.writers.specs.Writers.{writing, writeChallenge, writeResponse, writeSuccessRequest, writeFailureRequest, writeSuccessResponse, writeFailureResponse, writeEapSuccess, writeEapFailure}
 
+-- ---- "a writer gives 23 for what has no form above or needs L over 1,020", then 20; else 0 and the packet q. Every writer is `writing` of its packet
+pub data Writes (formed : Bool) (room : ℕ) (q : List ℕ) : Outcome (Unit {0}) → Type 0 where
+  no-form : formed ≡ false → Writes formed room q (refused 23 tt)
+  too-long : formed ≡ true → maxPacket < length q → Writes formed room q (refused 23 tt)
+  no-room : formed ≡ true → length q ≤ maxPacket → room < length q → Writes formed room q (refused 20 tt)
+  writes : formed ≡ true → length q ≤ maxPacket → length q ≤ room → Writes formed room q (outcome 0 q tt)
+
+abbrev pub WritersAnswer : Type 0
+WritersAnswer = (formed : Bool) (room : ℕ) (q : List ℕ) → Writes formed room q (writing formed room q)
+
+-- ---- what was written
 -- a buffer reads at an end, whatever stands in it after the packet, and tells l; "n is a writer's L"
 pub record ReadsBack (end : End) (after : List ℕ) (n : ℕ) (l : Learned) : Type 0 where
   pub learns : Learns end after l
