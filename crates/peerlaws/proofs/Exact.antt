@@ -6,7 +6,7 @@ use mathlib.Core.Bool.{Bool, true, false, not, _||_}
 use native.Mathlib.Omega.{arith}
 use lib.ListN.{length, take}
 use lib.Dec.{eqb, ltb}
-use borrow.Author.Tests.{eqb-true, eq-eqb, ne-eqb, ltb-true, ltb-false, lt-ltb, le-ltb, not-false}
+use borrow.Author.Tests.{eqb-true, eqb-false, eq-eqb, ne-eqb, ltb-true, ltb-false, lt-ltb, le-ltb, not-true, not-false}
 use Rattle.octets.specs.Choice.{pick}
 use Rattle.octets.specs.Octets.{octetIs, same}
 use Rattle.octets.proofs.Exits.{pick-true, pick-false, picked, passed, tested, clash}
@@ -36,10 +36,6 @@ use Rattle.peerlaws.proofs.Forward.{turned, moved-on, right-or-other, r
 either : {A : Type 0} (a b : Bool) → (a || b) ≡ true → (a ≡ true → A) → (b ≡ true → A) → A
 either true b e x y = x refl
 either false b e x y = y e
-
-not-true : (b : Bool) → not b ≡ true → b ≡ false
-not-true true e = sym e
-not-true false e = refl
 
 -- every stage that has sent takes EAP Failure
 failure-taken : (stage : Stage) → sent stage ≡ true → takes stage EapFailure ≡ true
@@ -88,7 +84,7 @@ module _ (p : Peer) (s random : List ℕ) (room : ℕ) (k : Packet) (e : readPac
       let a = passed (not (sent (p .stage))) _ t in
       tested (isRequest (k .kind))
       (λ r. another-request (not-false _ (a .0)) r (sym (eqb-true _ _ (sym (pick-true _ _ _ r) ∙ a .1))))
-      (λ r. other-end (not-false _ (a .0)) r (λ z. clash (not-true _ (sym (pick-false _ _ _ r) ∙ a .1)) (eq-eqb _ _ (sym z))))
+      (λ r. other-end (not-false _ (a .0)) r (λ z. eqb-false _ _ (not-true _ (sym (pick-false _ _ _ r) ∙ a .1)) (sym z)))
 
   misnumbered-not : (Misnumbered p k → ⊥) → misnumbered (p .stage) (k .kind) known ≡ false
   misnumbered-not n = tested _ (λ t. absurd (n (misnumbered-so t))) (λ t. t)
