@@ -3,7 +3,7 @@ use Prim.Native.Nat.{ℕ}
 use native.Mathlib.Omega.{arith}
 use mathlib.Core.List.{List}
 use mathlib.Core.Bool.{Bool, true, false}
-use lib.Dec.{eqb}
+use lib.ListN.{length}
 use Rattle.octets.specs.Choice.{pick}
 use Rattle.octets.proofs.Exits.{arms}
 use Rattle.answer.specs.Outcome as told
@@ -15,9 +15,10 @@ use Rattle.mschap.specs.Answers.{limited, passwordHashTold, ntResponseTold, aut
 use Rattle.packet.specs.declared.End.{End}
 use Rattle.packet.specs.declared.End.the-variants as end
 use Rattle.packet.specs.declared.Packet.{Packet}
-use Rattle.packet.specs.Frame.{framed, frameOf}
+use Rattle.packet.specs.Frame.{frameOf}
 use Rattle.packet.specs.Promises.{ReadOrRefused, refused-by, read-as}
 use Rattle.packet.specs.Reader.{readPacket}
+use Rattle.packet.proofs.Frames.{framed-so}
 use Rattle.packet.proofs.Readings.{read-or-refused}
 use Rattle.calls.specs.Done.{wordOf, made, given, givenBy}
 use Rattle.calls.specs.Stateless.{endless, readAt, md4At, sha1At, passwordHashAt, desAt, ntResponseAt, authenticatorAt}
@@ -32,10 +33,10 @@ read-number e packet = go (read-or-refused e packet)
     go (read-as x i) = good
 
 frame-number : (packet : List ℕ) → NumberAt (wordOf (endless (frameOf packet)) 0)
-unfolding frameOf framed endless pick
+unfolding frameOf endless pick
 frame-number packet =
-    let P : Told ℕ → Type 0 = λ t. NumberAt (wordOf (pick (eqb (t .number) 0) 23 (t .number)) 0) in
-    arms P _ (refusal 10 (omega arith, omega arith)) (arms P _ (refusal 11 (omega arith, omega arith)) (arms P _ (refusal 12 (omega arith, omega arith)) (refusal 23 (omega arith, omega arith))))
+    framed-so (λ k. told.refuses k 0) (λ q. told.gives (length q)) (λ t. NumberAt (wordOf (endless t) 0)) packet
+    (refusal 10 (omega arith, omega arith)) (refusal 11 (omega arith, omega arith)) (refusal 12 (omega arith, omega arith)) (λ f. refusal 23 (omega arith, omega arith))
 
 read-at : (e : ℕ) (packet : List ℕ) → NumberAt (readAt e packet)
 unfolding readAt
