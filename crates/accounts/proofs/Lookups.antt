@@ -18,6 +18,7 @@ use Rattle.answer.specs.Sizes.{maxName}
 use Rattle.accounts.specs.Records.{records}
 use Rattle.accounts.specs.Accounts.{codeOf, hashOf, recordName, wellFormed, isAccountOf, Placed, placed, firstFrom, accountOf, recordOf, Lookup, absent, account, lookupOf, findTold}
 use Rattle.accounts.specs.Table.{All, none, more, IsAccount, Names, NoneNames, FirstNames, Tells, tells-malformed, tells-long, tells-absent, tells-account}
+use Rattle.accounts.specs.Promises.{LookupsExact}
 use Rattle.accounts.proofs.Tables.{flatten-append, records-join, table-so, so-table, no-table, table-not}
 
 -- ---- naming the user
@@ -117,7 +118,7 @@ unfolding findTold
 find-gives t user w h = pick-false _ _ _ (not-so _ w) ∙ pick-false _ _ _ (le-ltb _ _ h)
 
 -- `Tells` has one answer, and it is this one
-pub find-tells : (t user : List ℕ) → Tells t user (findTold t user)
+find-tells : (t user : List ℕ) → Tells t user (findTold t user)
 unfolding accountOf
 find-tells t user =
     tested (wellFormed t) yes (λ w. rw (find-malformed t user w) (tells-malformed (no-table t w)))
@@ -132,7 +133,7 @@ find-tells t user =
         (λ i. rw (lookup-some user (accountOf t user) i) (tells-account (records t) h l (accountOf t user) (first-names user 0 (records t) i)))
         (λ i. rw (lookup-none user (accountOf t user) i) (tells-absent (records t) h l (first-none user 0 (records t) i)))))
 
-pub tells-find : (t user : List ℕ) (x : Told Lookup) → Tells t user x → x ≡ findTold t user
+tells-find : (t user : List ℕ) (x : Told Lookup) → Tells t user x → x ≡ findTold t user
 unfolding accountOf
 tells-find t user x (tells-malformed f) = sym (find-malformed t user (table-not t f))
 tells-find t user x (tells-long rs h l) = sym (find-long t user (so-table t rs h .0) l)
@@ -142,6 +143,9 @@ tells-find t user x (tells-absent rs h l n) =
 tells-find t user x (tells-account rs h l e f) =
     let p = so-table t rs h in
     sym (find-gives t user (p .0) l ∙ ap gives (rw (p .1, names-first user 0 rs e f) (lookup-some user e (so-named user (e .octets) (f .here)))))
+
+pub lookups-exact : LookupsExact
+lookups-exact = record { does = find-tells; only = tells-find }
 
 -- ---- the account of a user in a well-formed table
 all-at : {A : Type 0} {P : A → Type 0} (before : List A) (x : A) (after : List A) → All P (before ++ x ∷ after) → P x

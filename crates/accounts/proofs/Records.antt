@@ -11,7 +11,8 @@ use borrow.Author.Tests.{le-leb, lt-leb, leb-true}
 use Rattle.octets.specs.declared.Order.the-variants.{Little}
 use Rattle.octets.proofs.Parts.{number-take}
 use Rattle.octets.proofs.Exits.{below, exits, pick-true, pick-false, tested, both, and-both, and-first, and-second}
-use Rattle.accounts.specs.Records.{lengthOf, framed, head, cut, records}
+use Rattle.accounts.specs.Inner.{head}
+use Rattle.accounts.specs.Records.{lengthOf, framed, cut, records}
 
 -- ---- framing
 pub record Framed (r : List ℕ) : Type 0 where

@@ -15,6 +15,7 @@ use Rattle.octets.proofs.Parts.{number-take, number-append}
 use Rattle.accounts.specs.Records.{lengthOf, kindOf, framed, cut, records, every, sound}
 use Rattle.accounts.specs.Accounts.{accountGood, recordGood, wellFormed, checkNumber}
 use Rattle.accounts.specs.Table.{All, none, more, IsRecord, IsAccount, IsGood, IsTable, Checks, checks-malformed, checks-formed}
+use Rattle.accounts.specs.Promises.{TablesExact, ChecksExact}
 use Rattle.accounts.proofs.Records.{framed-so, so-framed, framed-take, records-next}
 
 -- ---- all
@@ -147,12 +148,18 @@ no-table t w rs h = clash w (so-table t rs h .0)
 pub table-not : (t : List ℕ) → ((rs : List (List ℕ)) → IsTable t rs → ⊥) → wellFormed t ≡ false
 table-not t f = tested (wellFormed t) (λ w. absurd (f (records t) (table-so t w))) (λ w. w)
 
+pub tables-exact : TablesExact
+tables-exact = record { does = table-so; only = so-table }
+
 -- `Checks` has one answer, and it is this one
-pub check-checks : (t : List ℕ) → Checks t (checkNumber t)
+check-checks : (t : List ℕ) → Checks t (checkNumber t)
 unfolding checkNumber
 check-checks t = picked (Checks t) (not (wellFormed t)) (λ n. checks-malformed (no-table t (not-true _ n))) (λ n. checks-formed (records t) (table-so t (not-false _ n)))
 
-pub checks-check : (t : List ℕ) (n : ℕ) → Checks t n → n ≡ checkNumber t
+checks-check : (t : List ℕ) (n : ℕ) → Checks t n → n ≡ checkNumber t
 unfolding checkNumber
 checks-check t n (checks-malformed f) = sym (pick-true _ _ _ (not-otherwise _ (table-not t f)))
 checks-check t n (checks-formed rs h) = sym (pick-false _ _ _ (not-so _ (so-table t rs h .0)))
+
+pub checks-exact : ChecksExact
+checks-exact = record { does = check-checks; only = checks-check }

@@ -13,7 +13,8 @@ use Rattle.octets.proofs.Exits.{exits, pick-true, pick-false, passed, tested, a
 use Rattle.octets.proofs.Parts.{rest-all}
 use Rattle.answer.specs.Outcome.{Told, gives, refuses}
 use Rattle.answer.specs.Sizes.{maxName}
-use Rattle.accounts.specs.Records.{kindOf, framed, head, records, every, sound}
+use Rattle.accounts.specs.Inner.{head}
+use Rattle.accounts.specs.Records.{kindOf, framed, records, every, sound}
 use Rattle.accounts.specs.Accounts.{codeOf, recordGood, wellFormed, isAccountOf, placed, firstFrom, accountOf, Lookup, absent, account, lookupOf, findTold}
 use Rattle.accounts.specs.declared.Known.{Known}
 use Rattle.accounts.proofs.Records.{next, stops, ends}

@@ -1,3 +1,5 @@
 pub mod Records
 pub mod Accounts
 pub mod Table
+pub mod Promises
+pub mod Inner

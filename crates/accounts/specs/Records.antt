@@ -42,8 +42,3 @@ every p (x ∷ xs) = pick (p x) (every p xs) false
 -- whether the octets are records end to end, each of which passes a test of its kind
 unfoldable pub sound : (List ℕ → Bool) → List ℕ → Bool
 sound good t = every (λ r. framed r && good r) (records t)
-
--- ---- the first record
--- the record that r begins with; no octets where it begins with none
-unfoldable pub head : List ℕ → List ℕ
-head r = pick (framed r) (take (lengthOf r) r) []

@@ -1,4 +1,4 @@
--- 01, "Account table", said by relations, with no walk over the octets. proofs/Tables and proofs/Lookups show that Records and Accounts decide them.
+-- 01, "Account table", said by relations, with no walk over the octets.
 use Prim.Native.Nat.{ℕ, _+_, _<_, _≤_}
 use mathlib.Core.Path.{_≡_}
 use mathlib.Core.List.{List, [], _∷_, _++_, flatten}

@@ -7,7 +7,7 @@ ghost use lib.Dec.{eqb};
 ghost use Rattle.octets.specs.Choice.{pick};
 ghost use Rattle.answer.specs.Answer.{numberOf};
 ghost use Rattle.answer.specs.Outcome.{gives, refuses};
-ghost use Rattle.accounts.specs.Records.{head};
+ghost use Rattle.accounts.specs.Inner.{head};
 ghost use Rattle.accounts.specs.Accounts.{codeOf, isCode, accountGood, recordGood, wellFormed, isAccountOf, accountOf, absent, account, lookupOf, checkNumber, findTold, toldFound};
 use answer::Answer;
 use answer::Refusal;
@@ -32,7 +32,6 @@ struct Known {
 
 const NONE: Known = Known { code: 0, hash: 0 };
 
-// The most octets of a user.
 // The record that `left` begins with; no octets where it begins with none.
 fn first_record(left: &[u8]) -> &[u8]
     ensures { λ r. ⌜ now r ≡ head (now (left .entry)) ⌝ }

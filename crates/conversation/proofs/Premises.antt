@@ -1,12 +1,12 @@
 -- The premises can be met: for every name and hash that fit there is a table with their account, and one by which no Response is right.
-use Prim.Native.Nat.{ℕ, _+_, _≤_}
+use Prim.Native.Nat.{ℕ, zero, suc, _+_, _≤_}
 use mathlib.Core.Path.{_≡_, refl, sym, ap, _∙_}
 use mathlib.Core.Bool.{true}
 use mathlib.Core.List.{List, [], _∷_, append-nil, flatten}
 use native.Mathlib.Omega.{arith}
-use lib.ListN.{length, length-append}
+use lib.ListN.{length, getD, replicate, length-append}
 use lib.Seq.{take-at, drop-at}
-use Rattle.octets.specs.Octets.{numberAt}
+use Rattle.octets.specs.Octets.{AreOctets, numberAt}
 use Rattle.octets.proofs.Exits.{clash}
 use Rattle.answer.specs.Sizes.{maxName}
 use Rattle.accounts.specs.Accounts.{codeOf, hashOf, isCode, wellFormed, isAccountOf, Placed, placed, accountOf}
@@ -78,8 +78,24 @@ zero-known : isCode 0 ≡ true
 unfolding isCode
 zero-known = refl
 
+ones : (n : ℕ) → AreOctets (replicate n 1)
+ones zero k = omega arith
+ones (suc n) zero = omega arith
+ones (suc n) (suc k) = ones n k
+
 pub premises-met : PremisesMet
 premises-met = record {
+  fitting = λ c table f r. record {
+    credentials = record { name = f .name; random = r; response = omega (arith, f .name) };
+    server-some = omega arith;
+    server-few = omega arith;
+    retries = omega arith;
+    challenge = refl;
+    challenge-room = omega arith;
+    reply-room = omega arith;
+    end-room = omega arith;
+  };
+  denied = λ c table w. record { formed = w; octets = ones 16; differs = λ e. absurd (omega (arith, ap (λ (l : List ℕ). getD l 0 0) e)); room = omega arith };
   granted = λ l c f e r. record { formed = rw e (table-formed c 0 f zero-known); account = rw e (table-account c 0 f zero-known); request-room = r };
   barred-by = λ l ts code f k n e. (rw e (table-formed _ code f k), barred code (rw e (table-account _ code f k)) n);
   wrong-by = λ challenge c. (empty-formed, λ r. clash (empty-none (userOf (c .name))) (r .account));

@@ -14,6 +14,7 @@ use Rattle.octets.specs.Lists.{part}
 use Rattle.octets.proofs.Exits.{pick-true, pick-false, arms}
 use Rattle.octets.proofs.Loops.{scanning}
 use Rattle.mschap.specs.Users.{startFrom, userStart, userOf}
+use Rattle.mschap.specs.Promises.{Plain, UsersExact}
 
 pub start-more : (s : List ℕ) (i : ℕ) → i < length s → (getD s i 0 ≡ 92 → ⊥) → startFrom i (drop i s) ≡ startFrom (i + 1) (drop (i + 1) s)
 unfolding startFrom
@@ -46,7 +47,7 @@ pub user-ends : (name : List ℕ) → userStart name + length (userOf name) ≡ 
 unfolding userOf
 user-ends name = omega (arith, user-start name, length-drop (userStart name) name)
 
-pub user-part : (name : List ℕ) → part name (userStart name) (length (userOf name)) ≡ userOf name
+user-part : (name : List ℕ) → part name (userStart name) (length (userOf name)) ≡ userOf name
 unfolding userOf
 user-part name = take-length (drop (userStart name) name)
 
@@ -54,10 +55,6 @@ pub user-shorter : (name : List ℕ) → length (userOf name) ≤ length name
 user-shorter name = omega (arith, user-ends name)
 
 -- ---- the user by the name's form
--- no backslash stands in p
-abbrev pub Plain : List ℕ → Type 0
-Plain p = (k : ℕ) → k < length p → getD p k 0 ≡ 92 → ⊥
-
 plain-rest : (x : ℕ) (p : List ℕ) → Plain (x ∷ p) → Plain p
 plain-rest x p h k l = h (suc k) (suc-le-suc l)
 
@@ -75,13 +72,16 @@ start-nowhere i [] h = refl
 start-nowhere i (x ∷ p) h = pick-false _ _ _ (plain-first x p h) ∙ start-nowhere (suc i) p (plain-rest x p h)
 
 -- what stands after the first backslash
-pub user-after : (p u : List ℕ) → Plain p → userOf (p ++ (92 ∷ u)) ≡ u
+user-after : (p u : List ℕ) → Plain p → userOf (p ++ (92 ∷ u)) ≡ u
 unfolding userOf userStart
 user-after p u h =
     let e : startFrom 0 (p ++ (92 ∷ u)) ≡ length p + 1 = start-after 0 p u h ∙ omega arith in
     ap (λ (n : ℕ). drop n (p ++ (92 ∷ u))) e ∙ drop-append-add p (92 ∷ u) 1
 
 -- all of a name that has none
-pub user-all : (p : List ℕ) → Plain p → userOf p ≡ p
+user-all : (p : List ℕ) → Plain p → userOf p ≡ p
 unfolding userOf userStart
 user-all p h = ap (λ (n : ℕ). drop n p) (start-nowhere 0 p h)
+
+pub users-exact : UsersExact
+users-exact = record { after = user-after; all = user-all; within = user-part }

@@ -1,3 +1,4 @@
 pub mod Users
 pub mod Responses
 pub mod Answers
+pub mod Promises

@@ -19,7 +19,7 @@ use Rattle.mschap.specs.Users.{userOf}
 use Rattle.verdict.specs.declared.Verdict.{Verdict}
 use Rattle.verdict.specs.Verdict.{badTable, wrong, right, judgeOf}
 use Rattle.verdict.specs.Promises.{Judges, judges-malformed, judges-wrong, judges-right}
-use Rattle.verdict.proofs.Rightness.{judges, judge-malformed}
+use Rattle.verdict.proofs.Rightness.{judges, judged as judged-as}
 use Rattle.server.specs.declared.Due.{Due}
 use Rattle.server.specs.declared.Due.the-variants as due
 use Rattle.server.specs.declared.Failure.{Failure}
@@ -63,6 +63,10 @@ failed b f = tested b (λ e. absurd (f e)) (λ e. e)
 
 module _ (s : Server) where
   -- ---- what each case comes to
+  pub verdict-so : {packet table : List ℕ} {v : Verdict} (x : Verdicts s packet table v) → verdictOf s (x .response) packet table ≡ v
+  unfolding verdictOf judgeOf
+  verdict-so x = sym (judged-as _ _ _ _ _ (x .is))
+
   due-so : {v : Verdict} {f : Failure} → Denies s v f → dueOf (v .mark) (v .code) s ≡ due.Failure f
   unfolding dueOf
   due-so (barred code string n) = pick-false _ _ _ (ne-eqb code 0 n)
@@ -73,14 +77,14 @@ module _ (s : Server) where
     judged-so : (v : Verdict) → Verdicts s packet table v → packetOf s packet table fresh room ≡ judgedBy v s fresh room
     unfolding takenBy
     judged-so v x =
-        taken-by s packet table fresh room (x .response) ChallengeSent (x .taken) ∙ ap (λ (u : Verdict). judgedBy u s fresh room) (x .is)
+        taken-by s packet table fresh room (x .response) ChallengeSent (x .taken) ∙ ap (λ (u : Verdict). judgedBy u s fresh room) (verdict-so x)
 
     denied-so : (v : Verdict) (f : Failure) → Verdicts s packet table v → Denies s v f → packetOf s packet table fresh room ≡ failOf f s fresh room
     unfolding judgedBy actOf
     denied-so v f x d = judged-so v x ∙ ap (λ (u : Due). actOf u s (v .string) fresh room) (due-so d)
 
   refuses-so : {c : Call (List ℕ)} {k : ℕ} → Refuses s c k → outcomeOf s c ≡ refused k s
-  unfolding startOf resendOf judgedBy dueOf actOf failOf verdictOf judgeOf
+  unfolding startOf resendOf judgedBy dueOf actOf failOf
   refuses-so (begun n) = pick-true _ _ _ (ap not (failed (begins (s .stage)) (λ e. n (begins-so (s .stage) e))))
   refuses-so (misfit {name = name} {retries = retries} b n) =
       pick-false _ _ _ (ap (λ (g : Stage). not (begins g)) b) ∙ pick-true _ _ _ (ap not (failed (startFits (length name) retries) (λ e. n (fits-so name retries e))))
@@ -88,7 +92,7 @@ module _ (s : Server) where
   refuses-so (untaken {packet} {table} {fresh} {reply} x e t) = packet-untaken s packet table fresh (length reply) x e t
   refuses-so (misnumbering {packet} {table} {fresh} {reply} x e t m) = packet-unnumbered s packet table fresh (length reply) x e t m
   refuses-so (malformed {packet} {table} {fresh} {reply} x t w) =
-      judged-so fresh (length reply) badTable (record { response = x; taken = t; is = judge-malformed _ _ _ _ table w })
+      judged-so fresh (length reply) badTable (record { response = x; taken = t; is = judges-malformed w })
   refuses-so (stale {fresh = fresh} {reply = reply} v f x d e) = denied-so fresh (length reply) v f x d ∙ pick-true _ _ _ (ap (same fresh) (sym e) ∙ same-refl fresh)
   refuses-so (unsent e) = pick-true _ _ _ (ap not e)
 
@@ -123,19 +127,18 @@ module _ (s : Server) where
     denied : (v : Verdict) (f : Failure) → Verdicts s packet table v → Denies s v f → Some here
     denied v f x d = tested (same fresh (s .request .challenge)) (λ e. no (stale v f x d (same-true _ _ e))) (λ e. yes (denying v f x d (λ q. clash e (ap (same fresh) (sym q) ∙ same-refl fresh))))
 
+    graded : (code : ℕ) (string : List ℕ) → Verdicts s packet table (right code string) → Some here
+    graded code string v = tested (eqb code 0) (λ z. yes (granting string (rw (eqb-true code 0 z) at v))) (λ z. denied _ _ v (barred code string (eqb-false _ _ z)))
+
     judged : (x : Packet) → Taken s packet ChallengeSent x → Some here
-    unfolding verdictOf judgeOf
-    judged x t = go (judges (s .request .challenge) (challengeIn x packet) (ntResponseOf x packet) (userOf (responseName x packet)) table) refl
+    judged x t = go (judges (s .request .challenge) (challengeIn x packet) (ntResponseOf x packet) (userOf (responseName x packet)) table)
       where
-        go : {v : Verdict} → Judges (s .request .challenge) (challengeIn x packet) (ntResponseOf x packet) (userOf (responseName x packet)) table v → verdictOf s x packet table ≡ v → Some here
-        go (judges-malformed w) e = no (malformed x t w)
-        go (judges-wrong w h) e =
-            let v : Verdicts s packet table wrong = record { response = x; taken = t; is = e } in
+        go : {v : Verdict} → Judges (s .request .challenge) (challengeIn x packet) (ntResponseOf x packet) (userOf (responseName x packet)) table v → Some here
+        go (judges-malformed w) = no (malformed x t w)
+        go (judges-wrong w h) =
+            let v : Verdicts s packet table wrong = record { response = x; taken = t; is = judges-wrong w h } in
             tested (eqb (s .retries) 0) (λ z. denied _ _ v (last (eqb-true _ _ z))) (λ z. denied _ _ v (again (eqb-false _ _ z)))
-        go (judges-right w r) e = graded _ _ (record { response = x; taken = t; is = e })
-          where
-            graded : (code : ℕ) (string : List ℕ) → Verdicts s packet table (right code string) → Some here
-            graded code string v = tested (eqb code 0) (λ z. yes (granting string (rw (eqb-true code 0 z) at v))) (λ z. denied _ _ v (barred code string (eqb-false _ _ z)))
+        go (judges-right w r) = graded _ _ (record { response = x; taken = t; is = judges-right w r })
 
     taken : (x : Packet) (g : Stage) → Taken s packet g x → Some here
     taken x Begin t = clash refl (t .kind)

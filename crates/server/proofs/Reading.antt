@@ -41,7 +41,7 @@ use Rattle.server.specs.Effects.{Verdicts, Denies, barred, again, last, 
 use Rattle.server.specs.Promises.{Asks}
 use Rattle.server.specs.Reading.{PeerReads, ChallengeMeant, SuccessMeant, FailureMeant, MovesReadBack, CountIsLength, Waits, Outstanding, OutstandingReads, ResendsRead}
 use Rattle.server.proofs.Laws.{challenge-fits, success-fits, failure-fits, digit-few}
-use Rattle.server.proofs.Effects.{by-moves}
+use Rattle.server.proofs.Effects.{verdict-so, by-moves}
 use Rattle.server.proofs.Promises.{resends-stored, stored-asked}
 
 -- ---- what a right verdict hands on: a string of octets, and a code that is 0 or has three digits
@@ -61,11 +61,11 @@ coded c e z =
 module _ {s : Server} {packet table : List ℕ} {code : ℕ} {string : List ℕ} (v : Verdicts s packet table (right code string)) where
   string-octets : AreOctets string
   unfolding verdictOf judgeOf
-  string-octets k = rw (v .is) at (right-string _ _ _ _ _ (ap (λ (u : Verdict). u .mark) (v .is)) k)
+  string-octets k = rw (verdict-so _ v) at (right-string _ _ _ _ _ (ap (λ (u : Verdict). u .mark) (verdict-so _ v)) k)
 
   code-three : (code ≡ 0 → ⊥) → (100 ≤ code) × (code ≤ 999)
   unfolding verdictOf judgeOf
-  code-three z = coded code (rw (v .is) at (right-code _ _ _ _ _ (ap (λ (u : Verdict). u .mark) (v .is)))) z
+  code-three z = coded code (rw (verdict-so _ v) at (right-code _ _ _ _ _ (ap (λ (u : Verdict). u .mark) (verdict-so _ v)))) z
 
 -- a Failure Request's code has three digits
 denied-three : {s : Server} {packet table : List ℕ} {v : Verdict} {f : Failure} → Verdicts s packet table v → Denies s v f → (100 ≤ f .error) × (f .error ≤ 999)

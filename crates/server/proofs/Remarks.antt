@@ -21,13 +21,13 @@ use Rattle.accounts.specs.Accounts.{codeOf, hashOf, isCode, accountGood, record
 use Rattle.mschap.specs.Users.{userOf, userStart, startFrom}
 use Rattle.mschap.specs.Responses.{ntResponse, authenticatorOf}
 use Rattle.mschap.proofs.Responses.{length-nt-response}
-use Rattle.verdict.specs.Verdict.{right, judgeUser, judgeOf}
-use Rattle.verdict.proofs.Rightness.{judge-right}
+use Rattle.verdict.specs.Verdict.{Right, right}
+use Rattle.verdict.specs.Promises.{judges-right}
 use Rattle.server.specs.declared.Server.{Server}
 use Rattle.server.specs.declared.Stage.{Stage}
 use Rattle.server.specs.declared.Stage.the-variants.{Begin, ChallengeSent, SuccessRequestSent}
 use Rattle.server.specs.State.{storedRequest, nextId, chapOf, initial, asked, IsServer}
-use Rattle.server.specs.Calls.{succeeding, startFits, startOf, ntResponseOf, responseName, verdictOf, resendOf}
+use Rattle.server.specs.Calls.{succeeding, startFits, startOf, ntResponseOf, responseName, resendOf}
 use Rattle.server.specs.Runs.{Call, starts, brings, resends, Answered, answered, Step, serverStep, Lent}
 use Rattle.server.specs.Effects.{Verdicts, granting, moves}
 use Rattle.server.specs.Remarks.{Promised, AlwaysRefuses, AnswersAlike, DoesNothing, PretendsLater, MakesUpN, NeverGrants, NeverConfirms, WrongEndsShutOut}
@@ -119,17 +119,14 @@ abbrev string : List ℕ
 string = authenticatorOf (hashOf (recordOf table [])) nt zeros zeros []
 
 verdict : Verdicts (at ChallengeSent 0) (response ++ []) table (right 0 string)
-unfolding verdictOf judgeOf isAccountOf numberAt same pick
+unfolding isAccountOf numberAt same pick
 verdict = record {
   response = found;
   taken = judges-so (at ChallengeSent 0) (response ++ []) found (back .reads []) refl refl refl refl;
   is =
-      (λ j. judgeUser zeros (in-it j) (nt-in-it j) (user-in-it j) table)
-      ∙ judge-right zeros zeros nt [] table formed (record {
-        account = ap (isAccountOf []) looked-up;
-        computed = ap (λ (r : List ℕ). ntResponse zeros zeros [] (hashOf r)) (sym looked-up);
-      })
-      ∙ ap (λ (r : List ℕ). right (codeOf r) string) looked-up;
+      let r : Right zeros zeros nt [] table = record { account = ap (isAccountOf []) looked-up; computed = ap (λ (r : List ℕ). ntResponse zeros zeros [] (hashOf r)) (sym looked-up) } in
+      let e : right (codeOf (recordOf table [])) string ≡ right 0 string = ap (λ (r : List ℕ). right (codeOf r) string) looked-up in
+      rw (in-it, nt-in-it, user-in-it, ← e) (judges-right formed r);
 }
 
 grants : serverStep (at ChallengeSent 0) (packet (response ++ []) table) ≡ answered (succeeding (at ChallengeSent 0) string) (replicate 64 0)

@@ -6,8 +6,8 @@ use mathlib.Core.List.{List}
 use native.Mathlib.Omega.{arith}
 use lib.ListN.{getD}
 use lib.Dec.{eqb}
-use borrow.Author.Tests.{eqb-true, ne-eqb}
-use Rattle.octets.proofs.Exits.{pick-true, pick-false, clash, tested, or-first}
+use borrow.Author.Tests.{ne-eqb}
+use Rattle.octets.proofs.Exits.{pick-true, pick-false, tested}
 use Rattle.answer.specs.Outcome.{Told, gives, refuses, told, refused}
 use Rattle.answer.proofs.Told.{told-refuses}
 use Rattle.packet.specs.declared.End.the-variants as end

@@ -10,16 +10,18 @@ use Rattle.answer.specs.Sizes.{maxName, maxRetries}
 use Rattle.answer.specs.declared.Identifier.{Identifier}
 use Rattle.packet.specs.declared.End.the-variants as end
 use Rattle.packet.specs.declared.Packet.{Packet}
-use Rattle.packet.specs.Reader.{readPacket}
+use Rattle.packet.specs.Reader.{readPacket, challengeIn}
 use Rattle.accounts.specs.Accounts.{wellFormed}
+use Rattle.mschap.specs.Users.{userOf}
 use Rattle.verdict.specs.declared.Verdict.{Verdict}
 use Rattle.verdict.specs.Verdict.{wrong, right}
+use Rattle.verdict.specs.Promises.{Judges}
 use Rattle.server.specs.declared.Failure.{Failure}
 use Rattle.server.specs.declared.Stage.the-variants.{Begin, ChallengeSent, SuccessRequestSent, FailureRequestSent}
 use Rattle.server.specs.declared.Server.{Server}
 use Rattle.server.specs.State.{storedRequest, challengeTo}
 use Rattle.server.specs.Moves.{sent, takes, misnumbered, Taken}
-use Rattle.server.specs.Calls.{asking, succeeding, failing, authenticated, ended, authenticationFailure, retryable, final, verdictOf}
+use Rattle.server.specs.Calls.{asking, succeeding, failing, authenticated, ended, authenticationFailure, retryable, final, ntResponseOf, responseName}
 use Rattle.server.specs.Runs.{Call, starts, brings, resends, replyOf, outcomeOf}
 
 -- "a server's own 1 to 256", "retry count 0 to 10"
@@ -32,7 +34,7 @@ pub record StartFits (name : List ℕ) (retries : ℕ) : Type 0 where
 pub record Verdicts (s : Server) (packet table : List ℕ) (v : Verdict) : Type 0 where
   pub response : Packet
   pub taken : Taken s packet ChallengeSent response
-  pub is : verdictOf s response packet table ≡ v
+  pub is : Judges (s .request .challenge) (challengeIn response packet) (ntResponseOf response packet) (userOf (responseName response packet)) table v
 
 -- the Failure Request that a verdict brings
 pub data Denies (s : Server) : Verdict → Failure → Type 0 where

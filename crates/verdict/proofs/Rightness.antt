@@ -42,7 +42,7 @@ module _ (challenge peer response user table : List ℕ) where
       (λ c. absurd (h (record { account = not-false _ a; computed = sym (same-true _ _ (not-false _ c)) }))))
 
   -- what is malformed
-  pub judge-malformed : wellFormed table ≡ false → judgeUser challenge peer response user table ≡ badTable
+  judge-malformed : wellFormed table ≡ false → judgeUser challenge peer response user table ≡ badTable
   unfolding judgeUser
   judge-malformed w = pick-true _ _ _ (ap not w)
 
@@ -57,7 +57,7 @@ module _ (challenge peer response user table : List ℕ) where
       (λ c. judges-right (not-false _ f) (record { account = not-false _ a; computed = sym (same-true _ _ (not-false _ c)) }))))
 
   -- and each comes in one way
-  judged : {v : Verdict} → Judges challenge peer response user table v → v ≡ judgeUser challenge peer response user table
+  pub judged : {v : Verdict} → Judges challenge peer response user table v → v ≡ judgeUser challenge peer response user table
   judged (judges-malformed w) = sym (judge-malformed w)
   judged (judges-wrong w h) = sym (judge-wrong w h)
   judged (judges-right w r) = sym (judge-right w r)
