@@ -25,7 +25,7 @@ use Rattle.packet.specs.Forms.{Formed}
 use Rattle.packet.specs.Frame.{codeOf, lengthOf, cutOf, framed}
 use Rattle.packet.specs.Inner.{atPeer, atServer, atEnd}
 use Rattle.packet.specs.Reader.{refusal, chapRow, readChallenge, readResponse, readSuccess, failureRow, readFailure, readBare, readPacket}
-use Rattle.packet.specs.Promises.{typeOf, opCodeOf, msLengthOf, CodeFor, HasOpCode, FirstFour, a-challenge, a-response, a-success-request, a-failure-request, InTable, first-four, a-success-response, a-failure-response, Condition, too-few, bad-length, too-long, bad-code, bad-type, bad-opcode, bad-ms-length, bad-form, First, RefusedExactly}
+use Rattle.packet.specs.Promises.{typeOf, opCodeOf, msLengthOf, CodeFor, HasOpCode, FirstFour, a-challenge, a-response, a-success-request, a-failure-request, InTable, first-four, a-success-response, a-failure-response, Condition, too-few, bad-length, too-long, bad-code, bad-type, bad-opcode, bad-ms-length, bad-form, First, RefusedExactly, ReadExactly}
 use Rattle.packet.proofs.Frames.{neither, InFrame}
 use Rattle.packet.proofs.Ends.{at-end}
 use Rattle.packet.proofs.Readings.{tells}
@@ -294,5 +294,17 @@ module _ (end : End) (p : List ℕ) (o : AreOctets p) where
       below j k (λ l. absurd (s .none-earlier j l c)) (λ g. let i : j ≡ k = omega arith in ap refusal i)
   first k (read x r past) s = absurd (omega (arith, past k (s .holds), numbered end p (s .holds) .1))
 
+  -- 0 is given where no condition holds
+  none-holds : {t : Told Packet} → Answered end p t → t .number ≡ 0 → (k : ℕ) → Condition end p k → ⊥
+  none-holds (refused j c past) e k d = omega (arith, numbered end p c .0)
+  none-holds (read x r past) e k d = omega (arith, past k d, numbered end p d .1)
+
+  read-so : {t : Told Packet} → Answered end p t → ((k : ℕ) → Condition end p k → ⊥) → t .number ≡ 0
+  read-so (refused j c past) none = absurd (none j c)
+  read-so (read x r past) none = refl
+
 pub refused-exactly : RefusedExactly
 refused-exactly end p k o = (given end p o k (answered end p o), first end p o k (answered end p o))
+
+pub read-exactly : ReadExactly
+read-exactly end p o = (none-holds end p o (answered end p o), read-so end p o (answered end p o))

@@ -80,6 +80,12 @@ RefusedExactly =
     (end : End) (p : List ℕ) (k : ℕ) → AreOctets p →
     (readPacket end p ≡ refusal k → First end p k) × (First end p k → readPacket end p ≡ refusal k)
 
+-- "and else answer 0 with their result"
+abbrev pub ReadExactly : Type 0
+ReadExactly =
+    (end : End) (p : List ℕ) → AreOctets p →
+    (readPacket end p .number ≡ 0 → (k : ℕ) → Condition end p k → ⊥) × (((k : ℕ) → Condition end p k → ⊥) → readPacket end p .number ≡ 0)
+
 -- a number from 10 to 17, or a packet with the Identifier at 1
 pub data ReadOrRefused (p : List ℕ) : Told Packet → Type 0 where
   refused-by : (n : ℕ) → 10 ≤ n → n ≤ 17 → ReadOrRefused p (refusal n)
