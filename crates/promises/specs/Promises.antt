@@ -5,7 +5,7 @@ use Rattle.answer.specs.Promises.{NumbersListed, NumbersApart}
 use Rattle.des.specs.Rows.{RowsPermute}
 use Rattle.des.specs.Keys.{KeysOdd, KeysBack}
 use Rattle.mschap.specs.Promises.{UsersExact}
-use Rattle.packet.specs.Promises.{ReaderAnswers, RefusedExactly, FormedReads, ReadsFormed, PaddingIgnored, ReadingTells, ReadRenumbered}
+use Rattle.packet.specs.Promises.{ReaderAnswers, RefusedExactly, ReadExactly, FormedReads, ReadsFormed, PaddingIgnored, ReadingTells, ReadRenumbered}
 use Rattle.packet.specs.Learned.{ReadAlike, ReadAlikeButForCase, WrittenReadsBack, SuccessReads, SuccessMessagesApart}
 use Rattle.writers.specs.Promises.{WritersAnswer, WritersReadBack}
 use Rattle.accounts.specs.Promises.{TablesExact, ChecksExact, LookupsExact}
@@ -57,6 +57,7 @@ pub record Demand1 : Type 0 where
 pub record Demand2 : Type 0 where
   -- "Each is given exactly when its condition holds and none earlier in the order does.": 10 to 17
   pub refused-exactly : RefusedExactly
+  pub read-exactly : ReadExactly
   -- the reader takes exactly the packets of the table
   pub formed-reads : FormedReads
   pub reads-formed : ReadsFormed
@@ -110,8 +111,6 @@ pub record Demand2 : Type 0 where
   pub resends-read : ResendsRead
   -- "Account table"; "A Response is right exactly when its user has an account and its NT-Response is the one so computed"
   pub tables-exact : TablesExact
-  pub checks-exact : ChecksExact
-  pub lookups-exact : LookupsExact
   pub verdicts-exact : VerdictsExact
   -- "Response arithmetic"
   pub users-exact : UsersExact
