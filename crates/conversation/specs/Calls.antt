@@ -83,7 +83,7 @@ module _ (l : Login) (b : Ends) where
   unfoldable pub ended : Outcome Peer
   ended = stepOf (replied .state) (closed .octets ++ l .at-end .padding) (l .at-end .random) (l .at-end .room)
 
--- ---- in between, tries that are wrong: what comes with the Response and with the Failure Request R=1; and then "in WAITING the caller supplies
+-- ---- in between, tries that are wrong: what comes with the Response and with the Failure Request R=1; and then "In WAITING the caller supplies
 -- name, hash and random octets", with a reply buffer
 pub record Try : Type 0 where
   pub at-response : ToServer
