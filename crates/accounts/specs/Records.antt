@@ -2,7 +2,7 @@
 use Prim.Native.Nat.{ℕ, zero, suc, _-_}
 use mathlib.Core.List.{List, [], _∷_}
 use mathlib.Core.Bool.{Bool, true, false, _&&_}
-use lib.ListN.{length, take, drop}
+use lib.ListN.{length, take}
 use lib.Dec.{leb}
 use Rattle.octets.specs.Choice.{pick}
 use Rattle.octets.specs.Octets.{numberAt}
@@ -14,9 +14,6 @@ lengthOf r = numberAt Little r 0
 
 abbrev pub kindOf : List ℕ → ℕ
 kindOf r = numberAt Little r 2
-
-abbrev pub bodyOf : List ℕ → List ℕ
-bodyOf r = drop 4 r
 
 -- framing: whether r begins with a record, whose length is 4 or more and stays inside r (so r has 4 octets or more)
 unfoldable pub framed : List ℕ → Bool

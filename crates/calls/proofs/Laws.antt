@@ -33,7 +33,8 @@ use Rattle.state.specs.Stored.{stored}
 use Rattle.state.specs.PeerOctets.{peerOctets, peerOf, octetsOfPeer}
 use Rattle.state.specs.ServerOctets.{serverOctets, serverOf, octetsOfServer}
 use Rattle.state.proofs.Puts.{stored-so}
-use Rattle.calls.specs.Done.{wordOf, done, ended, Encoded, made, given, givenBy}
+use Rattle.calls.specs.Done.{wordOf, done, ended, made, given, givenBy}
+use Rattle.calls.specs.Inner.{Encoded}
 use Rattle.calls.specs.Ends.{begun, serverNewAt}
 use Rattle.calls.specs.Stateless.{unitAt, unitsOf, endless}
 

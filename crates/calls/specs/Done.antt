@@ -1,6 +1,5 @@
 -- What a call at the boundary does, in octets: the word that it answers, and the lent octets afterwards.
 use Prim.Native.Nat.{ℕ, _+_, _*_, _%_}
-use mathlib.Core.Path.{_≡_}
 use mathlib.Core.List.{List}
 use lib.ListN.{length}
 use lib.Dec.{ltb}
@@ -29,11 +28,6 @@ unsized state reply = done 23 state reply
 unfoldable pub ended : {S : Type 0} → (S → List ℕ) → Outcome S → List ℕ → List ℕ → Done
 ended octetsOf o state reply =
     done (wordOf (o .number) (length (o .octets))) (pick (ltb (o .number) 10) (octetsOf (o .state)) state) (over (o .octets) reply)
-
--- the word and the state's octets after a call that answered number and n; q are the octets of the state that it left
-pub record Encoded (number n : ℕ) (q before : List ℕ) (word : ℕ) (after : List ℕ) : Type 0 where
-  pub answered : word ≡ wordOf number n
-  pub left : after ≡ pick (ltb number 10) q before
 
 -- ---- a call without a state: its word and the output buffer
 pub record Made : Type 0 where

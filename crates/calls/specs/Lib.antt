@@ -3,3 +3,4 @@ pub mod Ends
 pub mod Stateless
 pub mod Run
 pub mod Promises
+pub mod Inner

@@ -13,7 +13,7 @@ use borrow.Author.Tests.{lt-ltb, le-ltb}
 use Rattle.octets.specs.Lists.{Appended}
 use Rattle.octets.proofs.Exits.{pick-true, pick-false, arms}
 use Rattle.octets.proofs.Appends.{Laid, laid-more}
-use Rattle.console.specs.Shown.{escaped, shownAs, visible, Fronts}
+use Rattle.console.specs.Inner.{escaped, shownAs, visible, Fronts}
 
 length-shown : (x : ℕ) → length (shownAs x) ≤ 4
 unfolding shownAs

@@ -4,7 +4,7 @@ ghost use Prim.Native.Nat.{_*_, _≤_};
 ghost use lib.ListN.{length};
 ghost use Rattle.octets.specs.Lists.{cells, Appended};
 ghost use Rattle.console.specs.Reads.{Leaves};
-ghost use Rattle.console.specs.Shown.{spacedAt, escaped, shownAs, visible, Fronts};
+ghost use Rattle.console.specs.Inner.{spacedAt, escaped, shownAs, visible, Fronts};
 use libc::STDOUT_FILENO;
 
 // A file as it was read: not opened, not read, or so many octets at the front of a buffer.

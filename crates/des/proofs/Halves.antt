@@ -15,7 +15,8 @@ use Rattle.octets.proofs.Exits.{below}
 use Rattle.octets.proofs.Lists.{length-cells, getD-cells, cells-same}
 use Rattle.octets.proofs.Loops.{loops}
 use Rattle.des.specs.Tables.{ipTable, fpTable, pc1Table, eTable, pTable, pc2Table, shiftTable, sTable}
-use Rattle.des.specs.Bits.{bitsIn, Word, permuted, xored, bitsOf, groupAt}
+use Rattle.des.specs.Bits.{permuted, xored, bitsOf, groupAt}
+use Rattle.des.specs.Inner.{bitsIn, Word}
 use Rattle.des.specs.Des.{placeOf, boxOf, substituted, cipherFunction, shiftedAt, shifted, halvesOf, roundOf, roundsOf, swapped, enciphered}
 use Rattle.des.specs.Rows.{LookedUp}
 use Rattle.des.proofs.Numbers.{length-in}

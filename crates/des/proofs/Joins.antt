@@ -15,7 +15,8 @@ use Rattle.octets.specs.Lists.{cells, sized}
 use Rattle.octets.proofs.Lists.{sized-own}
 use Rattle.octets.proofs.Tables.{first-of, second-of}
 use Rattle.octets.proofs.Loops.{loops}
-use Rattle.des.specs.Bits.{bitsIn, Word, bitAt, permuted, names, bitOf, bitsOf}
+use Rattle.des.specs.Bits.{bitAt, permuted, bitOf, bitsOf}
+use Rattle.des.specs.Inner.{bitsIn, Word, names}
 use Rattle.des.proofs.Numbers.{in-suc}
 use Rattle.des.proofs.Words.{bit-in, in-append, octet-at, parity-at, of-one, of-append}
 

@@ -10,7 +10,8 @@ use lib.ListN.{length, getD, take, drop, length-drop}
 use lib.Seq.{split-at, length-take-le, getD-take, getD-drop, ext-getD}
 use Rattle.octets.specs.Lists.{cells, part}
 use Rattle.octets.proofs.Lists.{length-cells, getD-cells, cells-same}
-use Rattle.des.specs.Bits.{bitOf, bitsOf, bitsIn, numberOn, groupAt}
+use Rattle.des.specs.Bits.{bitOf, bitsOf, numberOn, groupAt}
+use Rattle.des.specs.Inner.{bitsIn}
 
 pub length-bits : (w : ℕ) (s : List ℕ) → length (bitsOf w s) ≡ w * length s
 unfolding bitsOf

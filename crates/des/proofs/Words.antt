@@ -10,7 +10,8 @@ use lib.ListN.{length, getD, drop, length-append, length-drop, List·getD-append
 use lib.Seq.{length-take-le, getD-take, getD-drop, getD-append-add, ext-getD}
 use Rattle.octets.specs.Lists.{cells, part}
 use Rattle.octets.proofs.Lists.{cells-same}
-use Rattle.des.specs.Bits.{bitsIn, Word, bitAt, permuted, sumOf, xored, bitOf, bitsOf, numberOn, groupAt}
+use Rattle.des.specs.Bits.{bitAt, permuted, sumOf, xored, bitOf, bitsOf, numberOn, groupAt}
+use Rattle.des.specs.Inner.{bitsIn, Word}
 use Rattle.des.specs.Keys.{withParity, keyOctet}
 use Rattle.des.proofs.Numbers.{length-in, getD-in, in-suc, bits-number}
 

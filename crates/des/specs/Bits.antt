@@ -1,19 +1,8 @@
 -- Bits: 0 or 1, the highest first, as FIPS 46-3 writes them. Where a bit becomes a number its remainder by 2 is taken.
-use Prim.Native.Nat.{ℕ, _+_, _-_, _*_, _/_, _%_, _^_, _<_}
-use mathlib.Core.Path.{_≡_}
-use mathlib.Core.Bool.{Bool, true, _&&_}
-use lib.Dec.{ltb, leb}
+use Prim.Native.Nat.{ℕ, _+_, _-_, _*_, _/_, _%_, _^_}
 use mathlib.Core.List.{List, [], _∷_}
 use lib.ListN.{length, getD}
 use Rattle.octets.specs.Lists.{cells, part}
-
--- the bits of a word of n bits, and a word below 2 ^ n that has the given ones
-unfoldable pub bitsIn : ℕ → ℕ → List ℕ
-bitsIn n w = cells n (λ i. w / 2 ^ (n - 1 - i) % 2)
-
-pub record Word (n : ℕ) (bits : List ℕ) (w : ℕ) : Type 0 where
-  pub small : w < 2 ^ n
-  pub is : bitsIn n w ≡ bits
 
 -- bit k, counted from 1 as in FIPS 46-3; 0 where there is none
 abbrev pub bitAt : List ℕ → ℕ → ℕ
@@ -22,11 +11,6 @@ bitAt bits k = getD (0 ∷ bits) k 0
 -- the bits that a table names, in its order
 unfoldable pub permuted : List ℕ → List ℕ → List ℕ
 permuted table bits = cells (length table) (λ i. bitAt bits (getD table i 0))
-
--- whether each entry of a table names one of n bits
-unfoldable pub names : ℕ → List ℕ → Bool
-names n [] = true
-names n (k ∷ table) = (ltb 0 k && leb k n) && names n table
 
 -- the sum of two bits modulo 2, and of lists, bit by bit
 abbrev pub sumOf : ℕ → ℕ → ℕ

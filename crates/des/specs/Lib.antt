@@ -3,3 +3,4 @@ pub mod Bits
 pub mod Des
 pub mod Keys
 pub mod Rows
+pub mod Inner

@@ -10,7 +10,8 @@ use lib.Dec.{ltb}
 use borrow.Author.Tests.{ltb-true, ltb-false, lt-ltb, le-ltb}
 use borrow.Author.Needs.{needs}
 use Rattle.octets.specs.Choice.{pick}
-use Rattle.octets.specs.Octets.{decimals, decimal, DigitsFrom, digits, digitValue, numberFrom, number, isDigit}
+use Rattle.octets.specs.Octets.{decimals, decimal, digits, digitValue, numberFrom, number, isDigit}
+use Rattle.octets.specs.Inner.{DigitsFrom}
 use Rattle.octets.proofs.Exits.{pick-true, pick-false, below, tested, passed}
 use Rattle.octets.proofs.Scans.{ten}
 

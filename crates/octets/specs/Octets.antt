@@ -1,9 +1,8 @@
 -- Octets: equality, numbers of two octets, hex digits, decimal digits.
 use Prim.Native.Nat.{ℕ, zero, suc, _+_, _-_, _*_, _/_, _%_, _<_}
-use mathlib.Core.Path.{_≡_}
 use mathlib.Core.List.{List, [], _∷_, _++_}
 use mathlib.Core.Bool.{Bool, true, false}
-use lib.ListN.{length, getD, drop}
+use lib.ListN.{length, getD}
 use lib.Dec.{ltb, eqb}
 use Rattle.octets.specs.Choice.{pick}
 use Rattle.octets.specs.Lists.{part}
@@ -110,8 +109,3 @@ decimals (suc k) n = pick (ltb n 10) ((48 + n) ∷ []) (decimals k (n / 10) ++ (
 -- n below 10,000,000,000 in decimal, with no leading zeros
 unfoldable pub decimal : ℕ → List ℕ
 decimal n = decimals 10 n
-
--- the digits of n stand from start to the end of ten octets
-pub record DigitsFrom (n : ℕ) (digits : List ℕ) (start : ℕ) : Type 0 where
-  pub size : start + length (decimal n) ≡ 10
-  pub is : drop start digits ≡ decimal n

@@ -3,7 +3,8 @@ ghost use mathlib.Core.Path.{_≡_};
 ghost use Prim.Native.Nat.{_<_, _≤_};
 ghost use lib.ListN.{length, getD, take, drop};
 ghost use Rattle.octets.specs.Lists.{cells, sized, put, Appended};
-ghost use Rattle.octets.specs.Octets.{octetIs, standsAt, same, pairOf, numberAt, isHex, allHex, hexStands, hexValue, hexDigit, hexAt, unhexAt, isDigit, digits, digitValue, number, decimal, DigitsFrom};
+ghost use Rattle.octets.specs.Octets.{octetIs, standsAt, same, pairOf, numberAt, isHex, allHex, hexStands, hexValue, hexDigit, hexAt, unhexAt, isDigit, digits, digitValue, number, decimal};
+ghost use Rattle.octets.specs.Inner.{DigitsFrom};
 
 // The order of a number's octets: the low one first, or the high one first.
 pub enum Order {

@@ -3,7 +3,8 @@ ghost use mathlib.Core.Path.{_≡_};
 ghost use Prim.Native.Nat.{_-_, _≤_};
 ghost use lib.ListN.{length};
 ghost use Rattle.password.specs.Utf8.{sizeBy, within, lowest, highest, isTail, sizeWith, sizeOf, isUtf8};
-ghost use Rattle.password.specs.Utf16.{pointOfTwo, pointOfThree, pointOfFour, pointWith, pointOf, firstUnit, secondUnit, unitsOf, strideOf, utf16, Converted};
+ghost use Rattle.password.specs.Utf16.{pointOfTwo, pointOfThree, pointOfFour, pointWith, pointOf, firstUnit, secondUnit, unitsOf, strideOf, utf16};
+ghost use Rattle.password.specs.Inner.{Converted};
 ghost use Rattle.password.specs.Hashed.{hashedOf};
 
 // What a password's octets are: up to 256 units in UTF-8, no UTF-8, or more units.

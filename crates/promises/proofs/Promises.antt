@@ -32,7 +32,7 @@ use Rattle.server.proofs.Promises as server
 use Rattle.server.proofs.Promises.{requests-numbered, closing-answers, stored-after, resends-last}
 use Rattle.server.proofs.Reading.{moves-read-back, count-is-length, outstanding-reads, resends-read}
 use Rattle.server.proofs.Failing.{fails}
-use Rattle.server.proofs.WrongGuess.{wrong-guess}
+use Rattle.server.proofs.WrongGuess.{wrong-guess, does-answered}
 use Rattle.server.proofs.OtherServers.{tells-early-breaks, counts-known-breaks}
 use Rattle.server.proofs.Remarks.{wrong-ends-shut-out}
 use Rattle.marked.proofs.Marked.{marked}
@@ -123,6 +123,7 @@ demand2 = record {
 demand3 : Demand3
 demand3 = record {
   wrong-guess = wrong-guess;
+  contract-answers = does-answered;
   wrong-guess-at = wrong-guess-at;
   tells-early-breaks = tells-early-breaks;
   counts-known-breaks = counts-known-breaks;

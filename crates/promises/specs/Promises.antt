@@ -14,7 +14,7 @@ use Rattle.peerlaws.specs.Exact.{NewExact, StepExact, SupplyExact, GiveUpExact}
 use Rattle.peerlaws.specs.Promises as peer
 use Rattle.peerlaws.specs.Promises.{SuccessOnlyIfRight, SuccessEarned, RepeatRule, RepeatRuleReached, EqualityOnly, NoPacketTaken, RepliesReadBack, AnyChapIdTaken, StateConsistent, RequestKept, RetryAnswersC, RandomOnlyInResponse, RandomOnlyInSupply, AnyTailTaken}
 use Rattle.peerlaws.specs.Remarks.{PretendsNot}
-use Rattle.server.specs.Runs.{serverStep}
+use Rattle.server.specs.Runs.{ContractAnswers, serverStep}
 use Rattle.server.specs.Effects.{EffectsExact}
 use Rattle.server.specs.Promises as server
 use Rattle.server.specs.Promises.{RequestsNumbered, ClosingAnswers, StoredAfter, ResendsLast}
@@ -131,6 +131,8 @@ pub record Demand2 : Type 0 where
 -- ---- Demand 3: "the wrong-guess rule, is stated about this page's server"
 pub record Demand3 : Type 0 where
   pub wrong-guess : WrongGuessRule serverStep
+  -- what the contracts of start, packet and resend say is the answer that it speaks of
+  pub contract-answers : ContractAnswers
   pub wrong-guess-at : WrongGuessAt
   -- it is false of a server that tells 647 before the response is found right, and of one that counts a retry only for known names
   pub tells-early-breaks : TellsEarlyBreaks

@@ -15,7 +15,8 @@ use Rattle.octets.proofs.Exits.{pick-true, pick-false, gave-not, arms}
 use Rattle.octets.proofs.Loops.{scanning}
 use Rattle.octets.proofs.Lists.{put-three, put-front}
 use Rattle.accounts.specs.Accounts.{isCode}
-use Rattle.roster.specs.Account.{accountHead, accountRecord, recordFor, StartsWith}
+use Rattle.roster.specs.Account.{accountHead, accountRecord, recordFor}
+use Rattle.roster.specs.Inner.{StartsWith}
 use Rattle.roster.specs.Lines.{upto}
 
 -- ---- the place of an octet

@@ -1,9 +1,8 @@
 -- 01, "Account table": the record of an account.
 use Prim.Native.Nat.{ℕ, _+_, _/_, _%_}
-use mathlib.Core.Path.{_≡_}
 use mathlib.Core.List.{List, [], _∷_, _++_}
 use mathlib.Core.Bool.{not}
-use lib.ListN.{length, take}
+use lib.ListN.{length}
 use lib.Dec.{ltb}
 use Rattle.octets.specs.Choice.{pick}
 use Rattle.accounts.specs.Accounts.{isCode}
@@ -19,8 +18,3 @@ accountRecord code hash name = accountHead (22 + length name) code ++ hash ++ na
 -- no octets for what has no record: a code that is not one of the five, or a name of more than 256 octets
 unfoldable pub recordFor : ℕ → List ℕ → List ℕ → List ℕ
 recordFor code hash name = pick (not (isCode code)) [] (pick (ltb 256 (length name)) [] (accountRecord code hash name))
-
--- the first n octets of a list are q
-pub record StartsWith (q octets : List ℕ) (n : ℕ) : Type 0 where
-  pub count : n ≡ length q
-  pub front : take n octets ≡ q

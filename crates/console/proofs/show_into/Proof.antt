@@ -2,7 +2,7 @@ use Prim.Native.Nat.{_-_}
 use mathlib.Core.Path.{_≡_}
 use lib.ListN.{length, drop}
 use Rattle.octets.proofs.Appends.{Laid}
-use Rattle.console.specs.Shown.{visible}
+use Rattle.console.specs.Inner.{visible}
 use Rattle.console.proofs.Texts.{texts}
 use Rattle.console.proofs.show_into.Statement.{statement}
 use Rattle.console.proofs.show_into.Tie as tie

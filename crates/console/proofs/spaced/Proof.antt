@@ -1,6 +1,6 @@
 use Prim.Native.Nat.{_-_}
 use Rattle.octets.proofs.Loops.{Filled, filling}
-use Rattle.console.specs.Shown.{spacedAt}
+use Rattle.console.specs.Inner.{spacedAt}
 use Rattle.console.proofs.spaced.Statement.{statement}
 use Rattle.console.proofs.spaced.Tie as tie
 

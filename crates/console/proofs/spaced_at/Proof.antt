@@ -1,4 +1,4 @@
-use Rattle.console.specs.Shown.{spacedAt}
+use Rattle.console.specs.Inner.{spacedAt}
 use Rattle.octets.proofs.Exits.{exits}
 use borrow.Author.Needs.{needs}
 use Rattle.console.proofs.spaced_at.Statement.{statement}

@@ -1,6 +1,7 @@
 use Prim.Native.Nat.{_-_}
 use Rattle.octets.proofs.Loops.{Filled}
-use Rattle.des.specs.Bits.{bitsIn, groupAt}
+use Rattle.des.specs.Bits.{groupAt}
+use Rattle.des.specs.Inner.{bitsIn}
 use Rattle.des.proofs.Joins.{words}
 use Rattle.des.proofs.octets_of.Statement.{statement}
 use Rattle.des.proofs.octets_of.Tie as tie

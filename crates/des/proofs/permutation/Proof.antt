@@ -1,5 +1,5 @@
 use Rattle.des.specs.Tables.{pTable}
-use Rattle.des.specs.Bits.{names}
+use Rattle.des.specs.Inner.{names}
 use Rattle.des.proofs.Words.{row-on, row-last, rows-are}
 use borrow.Author.Needs.{needs}
 use Rattle.des.proofs.permutation.Statement.{statement}

@@ -1,6 +1,6 @@
 use Prim.Native.Nat.{_-_}
 use Rattle.octets.proofs.Loops.{Filled}
-use Rattle.des.specs.Bits.{bitsIn}
+use Rattle.des.specs.Inner.{bitsIn}
 use Rattle.des.specs.Keys.{keyOctet}
 use Rattle.des.proofs.Joins.{words}
 use Rattle.des.proofs.with_parities.Statement.{statement}

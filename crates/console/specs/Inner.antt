@@ -1,4 +1,4 @@
--- Octets as a reader sees them.
+-- What this crate's private functions promise each other: octets as a reader sees them.
 use Prim.Native.Nat.{ℕ, _+_, _*_, _/_, _%_}
 use mathlib.Core.Path.{_≡_}
 use mathlib.Core.List.{List, [], _∷_, _++_}
