@@ -21,7 +21,7 @@ use Rattle.packet.specs.declared.Packet.{Packet}
 use Rattle.packet.specs.Kinds.{isKind, isRequest}
 use Rattle.packet.specs.Reader.{readPacket}
 use Rattle.packet.proofs.Apart.{kind-so}
-use Rattle.packet.specs.Promises.{ReadOrRefused, refused-by as none, read-as as some}
+use Rattle.packet.specs.Promises.{ReadOrRefused, refused-by, read-as}
 use Rattle.packet.proofs.Readings.{read-or-refused}
 use Rattle.peer.specs.declared.Stage.{Stage}
 use Rattle.peer.specs.declared.Stage.the-variants.{Begin, ChallengeResponseSent, SuccessResponseSent, FailureResponseSent, Waiting, Success, Failed}
@@ -190,8 +190,8 @@ unfolding stepOf readOf
 steps p s random room = go (read-or-refused end.Peer s) refl
   where
     go : {t : Told Packet} → ReadOrRefused s t → readPacket end.Peer s ≡ t → Steps p s random room (readOf t p s random room)
-    go (none n h l) e = rw (pick-false (eqb n 0) _ _ (ne-eqb n 0 (λ z. absurd (omega arith)))) (unread n (ap (λ (t : Told Packet). t .number) e) h l)
-    go (some k i) e = rw (pick-true true _ _ refl) (turn p s random room k e)
+    go (refused-by n h l) e = rw (pick-false (eqb n 0) _ _ (ne-eqb n 0 (λ z. absurd (omega arith)))) (unread n (ap (λ (t : Told Packet). t .number) e) h l)
+    go (read-as k i) e = rw (pick-true true _ _ refl) (turn p s random room k e)
 
 unread-is : (p : Peer) (s random : List ℕ) (room n : ℕ) → readPacket end.Peer s .number ≡ n → 10 ≤ n → stepOf p s random room ≡ refused n p
 unfolding stepOf readOf

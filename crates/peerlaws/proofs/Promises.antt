@@ -25,7 +25,7 @@ use Rattle.peer.specs.declared.Peer.{Peer}
 use Rattle.peer.specs.State.{lastRequest, lastReply, responseTo, staged, answered, responded, awaiting, supplied as suppliedState}
 use Rattle.peer.specs.Moves.{takes, sent, repeats, turnOf}
 use Rattle.peer.specs.Calls.{answerOf, leftBy, movedOf, turnIn, takenOf, readOf, stepOf, responseBy}
-use Rattle.packet.specs.Promises.{ReadOrRefused, refused-by as unread, read-as as some}
+use Rattle.packet.specs.Promises.{ReadOrRefused, refused-by, read-as}
 use Rattle.packet.proofs.Readings.{read-or-refused}
 use Rattle.peerlaws.specs.Exact.{Repeats, responseIn}
 use Rattle.peerlaws.specs.Runs.{Call, step, supply, giveUp, callOf}
@@ -126,10 +126,10 @@ unfolding stepOf readOf takenOf turnIn
 no-packet-taken p s random room k h e = go (read-or-refused end.Peer s) e
   where
     go : {t : Told Packet} → ReadOrRefused s t → k ≡ t .number → readOf t p s random room ≡ refused (pick (eqb k 0) 19 k) p
-    go (unread n l m) f =
+    go (refused-by n l m) f =
         let z : eqb n 0 ≡ false = ne-eqb n 0 (λ z. absurd (omega arith)) in
         rw f (pick-false _ _ _ z ∙ ap (λ (x : ℕ). refused x p) (sym (pick-false (eqb n 0) 19 n z)))
-    go (some x i) f =
+    go (read-as x i) f =
         let r = resting (p .stage) (x .kind) h in
         rw f (pick-true _ _ _ refl
         ∙ none (p .stage) (x .kind) p x (take (x .length) s) random room (same (take (x .length) s) (lastRequest p)) (octetIs (lastRequest p) 1 (x .id .0)) (r .0) (r .1)

@@ -17,7 +17,7 @@ use Rattle.answer.specs.declared.Identifier.{Identifier}
 use Rattle.packet.specs.declared.End.the-variants as end
 use Rattle.packet.specs.Forms.{header, chapPacket, challengePacket, successRequest, failureRequest, eapSuccess, eapFailure}
 use Rattle.packet.specs.Reader.{readPacket}
-use Rattle.packet.specs.Promises.{ReadOrRefused, refused-by as none, read-as as some}
+use Rattle.packet.specs.Promises.{ReadOrRefused, refused-by, read-as}
 use Rattle.packet.proofs.Readings.{read-or-refused}
 use Rattle.verdict.specs.declared.Verdict.{Verdict}
 use Rattle.server.specs.declared.Failure.{Failure}
@@ -39,8 +39,8 @@ read-most : (p : List ℕ) → readPacket end.Server p .number ≤ 17
 read-most p = go (read-or-refused end.Server p)
   where
     go : {t : Told _} → ReadOrRefused p t → t .number ≤ 17
-    go (none n h l) = l
-    go (some x i) = omega arith
+    go (refused-by n h l) = l
+    go (read-as x i) = omega arith
 
 can : {s : Server} {c : Call (List ℕ)} {k : ℕ} → Refuses s c k → CanRefuse c k
 can (begun n) = inl refl

@@ -13,7 +13,7 @@ use Rattle.answer.proofs.Told.{told-refuses}
 use Rattle.packet.specs.declared.End.the-variants as end
 use Rattle.packet.specs.declared.Packet.{Packet}
 use Rattle.packet.specs.Reader.{noPacket, readPacket}
-use Rattle.packet.specs.Promises.{ReadOrRefused, refused-by as none, read-as as some}
+use Rattle.packet.specs.Promises.{ReadOrRefused, refused-by, read-as}
 use Rattle.packet.proofs.Readings.{read-or-refused, read-id}
 use Rattle.server.specs.declared.Stage.{Stage}
 use Rattle.server.specs.declared.Server.{Server}
@@ -41,8 +41,8 @@ module _ (s : Server) (p : List ℕ) where
   turn-cases {A} unread untaken unnumbered taken = go (read-or-refused end.Server p) refl
     where
       go : {t : Told Packet} → ReadOrRefused p t → readPacket end.Server p ≡ t → A
-      go (none n h l) e = unread n h l (ap (λ (t : Told Packet). t .number) e)
-      go (some x i) e =
+      go (refused-by n h l) e = unread n h l (ap (λ (t : Told Packet). t .number) e)
+      go (read-as x i) e =
           tested (takes (s .stage) (x .kind))
           (λ t. tested (misnumbered s x) (unnumbered x e t) (λ n. taken x (record { reads = e; stage = refl; kind = t; numbered = n })))
           (untaken x e)
