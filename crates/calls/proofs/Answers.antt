@@ -18,7 +18,7 @@ use Rattle.peer.specs.declared.Stage.the-variants.{Begin}
 use Rattle.peer.specs.State.{initial}
 use Rattle.peer.specs.Calls.{newOf}
 use Rattle.peerlaws.specs.Runs.{Call, step, supply, giveUp, callOf, roomOf, IsPeer, IsCall}
-use Rattle.peerlaws.specs.Promises.{Refusal, Leaves, written, credentials, authenticated, ended, refusal}
+use Rattle.peerlaws.specs.Promises.{CanRefuse, Leaves, written, credentials, authenticated, ended, refusal}
 use Rattle.peerlaws.proofs.Promises.{answers-leave}
 use Rattle.peerlaws.proofs.Sizes.{new-is, call-is}
 use Rattle.packet.specs.Forms.{eapSuccess, eapFailure}
@@ -49,7 +49,7 @@ unfolding wordOf
 unsized-at s b = promises.refuses 23 (omega arith, omega arith)
 
 -- ---- the peer
-refusal-listed : (c : Call) (k : ℕ) → Refusal c k → IsRefusal k
+refusal-listed : (c : Call) (k : ℕ) → CanRefuse c k → IsRefusal k
 refusal-listed (step s random room) k r = (r .0, omega (arith, r .1))
 refusal-listed (supply name hash random room) k r =
     ⊎-elim (λ e. (omega arith, omega arith)) (λ f. ⊎-elim (λ e. (omega arith, omega arith)) (λ e. (omega arith, omega arith)) f) r

@@ -36,7 +36,7 @@ use Rattle.state.proofs.Puts.{stored-so}
 use Rattle.calls.specs.Done.{wordOf, done, ended, made, given, givenBy}
 use Rattle.calls.specs.Inner.{Encoded}
 use Rattle.calls.specs.Ends.{begun, serverNewAt}
-use Rattle.calls.specs.Stateless.{unitAt, unitsOf, endless}
+use Rattle.calls.specs.Stateless.{unitAt, unitsOf, withoutEnd}
 
 -- ---- the word: number and n can be read back, and no bit is set above them
 pub number-back : (k n : ℕ) → k < 256 → wordOf k n % 256 ≡ k
@@ -104,12 +104,12 @@ read-refused x why k w e f g = rw e (g ∙ ap (λ (j : ℕ). wordOf j 0) f)
 pub read-read : (x : Reading) (k : Packet) (w : ℕ) → x ≡ Read k → w ≡ wordOf 0 0 → w ≡ wordOf (toldReading x .number) 0
 read-read x k w e g = rw e g
 
-pub frame-refused : (x : Framed) (why : Refusal) (k w : ℕ) → x ≡ frame.Refused why → k ≡ refusalOf why → w ≡ wordOf k 0 → w ≡ wordOf (endless (toldFrame x)) 0
-unfolding endless
+pub frame-refused : (x : Framed) (why : Refusal) (k w : ℕ) → x ≡ frame.Refused why → k ≡ refusalOf why → w ≡ wordOf k 0 → w ≡ wordOf (withoutEnd (toldFrame x)) 0
+unfolding withoutEnd
 frame-refused x why k w e f g = rw e (g ∙ ap (λ (j : ℕ). wordOf j 0) (f ∙ sym (pick-false _ _ _ (refusal-some why))))
 
-pub frame-of : (x : Framed) (l w : ℕ) → x ≡ frame.Of l → w ≡ wordOf 23 0 → w ≡ wordOf (endless (toldFrame x)) 0
-unfolding endless
+pub frame-of : (x : Framed) (l w : ℕ) → x ≡ frame.Of l → w ≡ wordOf 23 0 → w ≡ wordOf (withoutEnd (toldFrame x)) 0
+unfolding withoutEnd
 frame-of x l w e g = rw e (g ∙ ap (λ (j : ℕ). wordOf j 0) (sym (pick-true _ _ _ refl)))
 
 pub given-so : (k m : ℕ) (q out after : List ℕ) (w : ℕ) → k ≡ m → k < 10 → after ≡ put out 0 q → length q ≡ length out → w ≡ wordOf k 0 → made w after ≡ given m q out

@@ -21,7 +21,7 @@ use Rattle.packet.specs.Reader.{readPacket}
 use Rattle.packet.proofs.Frames.{framed-so}
 use Rattle.packet.proofs.Readings.{read-or-refused}
 use Rattle.calls.specs.Done.{wordOf, made, given, givenBy}
-use Rattle.calls.specs.Stateless.{endless, readAt, md4At, sha1At, passwordHashAt, desAt, ntResponseAt, authenticatorAt}
+use Rattle.calls.specs.Stateless.{withoutEnd, readAt, md4At, sha1At, passwordHashAt, desAt, ntResponseAt, authenticatorAt}
 use Rattle.calls.specs.Promises.{NumberAt, good, refusal, MakesAt, gives, refuses, StatelessAnswer}
 
 -- ---- a reader, and the check of a table
@@ -32,10 +32,10 @@ read-number e packet = go (read-or-refused e packet)
     go (refused-by n h l) = refusal n (h, omega arith)
     go (read-as x i) = good
 
-frame-number : (packet : List ℕ) → NumberAt (wordOf (endless (frameOf packet)) 0)
-unfolding frameOf endless pick
+frame-number : (packet : List ℕ) → NumberAt (wordOf (withoutEnd (frameOf packet)) 0)
+unfolding frameOf withoutEnd pick
 frame-number packet =
-    framed-so (λ k. told.refuses k 0) (λ q. told.gives (length q)) (λ t. NumberAt (wordOf (endless t) 0)) packet
+    framed-so (λ k. told.refuses k 0) (λ q. told.gives (length q)) (λ t. NumberAt (wordOf (withoutEnd t) 0)) packet
     (refusal 10 (omega arith, omega arith)) (refusal 11 (omega arith, omega arith)) (refusal 12 (omega arith, omega arith)) (λ f. refusal 23 (omega arith, omega arith))
 
 read-at : (e : ℕ) (packet : List ℕ) → NumberAt (readAt e packet)

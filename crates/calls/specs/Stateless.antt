@@ -19,15 +19,15 @@ use Rattle.mschap.specs.Answers.{passwordHashTold, ntResponseTold, authenticato
 use Rattle.calls.specs.Done.{wordOf, Made, made, givenBy}
 
 -- for an end that is none, 23 after 10 to 12, which are the same for both ends; t is L, or one of those
-unfoldable pub endless : Told ℕ → ℕ
-endless t = pick (eqb (t .number) 0) 23 (t .number)
+unfoldable pub withoutEnd : Told ℕ → ℕ
+withoutEnd t = pick (eqb (t .number) 0) 23 (t .number)
 
 -- an end is 0, the peer, or 1, the server
 unfoldable pub readAt : ℕ → List ℕ → ℕ
 readAt e packet =
     pick (eqb e 0) (wordOf (readPacket end.Peer packet .number) 0)
     (pick (eqb e 1) (wordOf (readPacket end.Server packet .number) 0)
-    (wordOf (endless (frameOf packet)) 0))
+    (wordOf (withoutEnd (frameOf packet)) 0))
 
 abbrev pub has : ℕ → List ℕ → Bool
 has n s = eqb (length s) n

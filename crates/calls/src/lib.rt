@@ -18,7 +18,7 @@ ghost use Rattle.state.specs.ServerOctets.{serverOctets, serverOf, octetsOfServ
 ghost use Rattle.calls.specs.Done.{wordOf, done, made, ended, given, givenBy};
 ghost use Rattle.calls.specs.Inner.{Encoded};
 ghost use Rattle.calls.specs.Ends.{begun, peerNewAt, peerStepAt, peerSupplyAt, peerGiveUpAt, serverNewAt, serverStartAt, serverPacketAt, serverResendAt};
-ghost use Rattle.calls.specs.Stateless.{unitAt, unitsOf, endless, readAt, md4At, sha1At, passwordHashAt, desAt, ntResponseAt, authenticatorAt};
+ghost use Rattle.calls.specs.Stateless.{unitAt, unitsOf, withoutEnd, readAt, md4At, sha1At, passwordHashAt, desAt, ntResponseAt, authenticatorAt};
 use answer::Answer;
 use answer::Identifier;
 use packet::End;
@@ -308,7 +308,7 @@ fn read_as(end: End, packet: &[u8]) -> u64
 }
 
 fn frame_word(x: Framed) -> u64
-    ensures { λ r. ⌜ r ≡ wordOf (endless (toldFrame x)) 0 ⌝ }
+    ensures { λ r. ⌜ r ≡ wordOf (withoutEnd (toldFrame x)) 0 ⌝ }
 {
     match x {
         Framed::Refused(why) => word(answer::number(Answer::Refused(why)), 0),
@@ -316,8 +316,8 @@ fn frame_word(x: Framed) -> u64
     }
 }
 
-fn read_endless(packet: &[u8]) -> u64
-    ensures { λ r. ⌜ r ≡ wordOf (endless (frameOf (now (packet .entry)))) 0 ⌝ }
+fn read_without_end(packet: &[u8]) -> u64
+    ensures { λ r. ⌜ r ≡ wordOf (withoutEnd (frameOf (now (packet .entry)))) 0 ⌝ }
 {
     let x = packet::frame(packet);
     frame_word(x)
@@ -333,7 +333,7 @@ pub fn read(end: u8, packet: &[u8]) -> u64
     if end == 1 {
         return read_as(End::Server, packet);
     }
-    read_endless(packet)
+    read_without_end(packet)
 }
 
 pub fn accounts_check(table: &[u8]) -> u64

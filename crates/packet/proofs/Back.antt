@@ -356,7 +356,7 @@ module _ (id : ℕ) where
 
 pub written-reads-back : WrittenReadsBack
 written-reads-back = record {
-  challenge = λ id chapid challenge name pad e h k. learns (challenge-back id chapid challenge name e h (omega arith)) pad;
+  challenge = λ id chapid challenge name pad e h k. learns (challenge-back id chapid challenge name e h k) pad;
   response = λ id chapid peer response name pad e f h. learns (response-back id chapid peer response name e f h) pad;
   success-request = success-reads;
   failure-request = λ id chapid e retry c v text pad f h. learns (failure-back id chapid e retry c v text f h) pad;

@@ -17,7 +17,7 @@ use Rattle.packet.specs.declared.Kind.{Kind}
 use Rattle.packet.specs.declared.Kind.the-variants.{Challenge, Response, SuccessRequest, FailureRequest, RetryRequest, SuccessResponse, FailureResponse, EapSuccess, EapFailure}
 use Rattle.packet.specs.declared.Place.{Place}
 use Rattle.packet.specs.declared.Packet.{Packet}
-use Rattle.packet.specs.Forms.{challengeNameAt, responseNameAt, successTailAt, successTextAt, Tail, no-tail, with-text, successMessage, FailureSpelling, failureMessage, chapPacket, challengePacket, responsePacket, successResponse, failureResponse, eapSuccess, eapFailure}
+use Rattle.packet.specs.Forms.{challengeNameAt, maxChallengeName, responseNameAt, successTailAt, successTextAt, Tail, no-tail, with-text, successMessage, FailureSpelling, failureMessage, chapPacket, challengePacket, responsePacket, successResponse, failureResponse, eapSuccess, eapFailure}
 use Rattle.packet.specs.Frame.{cutOf}
 use Rattle.packet.specs.Reader.{challengePlace, ntResponsePlace, stringPlace, place, nowhere, at, reading, failureOf, readPacket}
 
@@ -103,7 +103,7 @@ SuccessReads =
     Learns Peer (chapPacket 1 3 id chapid (successMessage s tail) ++ pad) (learned (successReading id chapid tail) [] s (textOf tail))
 
 pub record WrittenReadsBack : Type 0 where
-  pub challenge : (id chapid : ℕ) (challenge name pad : List ℕ) → length challenge ≡ 16 → 1 ≤ length name → challengeNameAt + length name ≤ maxPacket →
+  pub challenge : (id chapid : ℕ) (challenge name pad : List ℕ) → length challenge ≡ 16 → 1 ≤ length name → length name ≤ maxChallengeName →
       Learns Peer (challengePacket id chapid challenge name ++ pad) (challengeLearned id chapid challenge name)
   pub response : (id chapid : ℕ) (peer response name pad : List ℕ) → length peer ≡ 16 → length response ≡ 24 → length name ≤ maxName →
       Learns Server (responsePacket id chapid peer response name ++ pad) (responseLearned id chapid peer response name)

@@ -31,10 +31,10 @@ use Rattle.peerlaws.specs.Runs.{Call, step, supply, giveUp, callOf, room
 
 -- ---- 1. "What a call answers": the number, n, the state and the buffer that the call c can leave, where it took the state p and the buffer b
 -- the numbers from 10 up that a packet can bring, and those of "other calls". What makes a peer is `NewExact`
-abbrev pub Refusal : Call → ℕ → Type 0
-Refusal (step s random room) k = (10 ≤ k) × (k ≤ 20)
-Refusal (supply name hash random room) k = (k ≡ 19) ⊎ ((k ≡ 23) ⊎ (k ≡ 20))
-Refusal giveUp k = k ≡ 19
+abbrev pub CanRefuse : Call → ℕ → Type 0
+CanRefuse (step s random room) k = (10 ≤ k) × (k ≤ 20)
+CanRefuse (supply name hash random room) k = (k ≡ 19) ⊎ ((k ≡ 23) ⊎ (k ≡ 20))
+CanRefuse giveUp k = k ≡ 19
 
 pub data Leaves (p : Peer) (c : Call) (b : List ℕ) : (k n : ℕ) (s : Peer) (b′ : List ℕ) → Type 0 where
   written : (q : List ℕ) (s : Peer) → length q ≤ length b → sent (s .stage) ≡ true → Leaves p c b 0 (length q) s (over q b)
@@ -42,7 +42,7 @@ pub data Leaves (p : Peer) (c : Call) (b : List ℕ) : (k n : ℕ) (s : Peer) (b
   authenticated : (s : Peer) → s .stage ≡ Success → Leaves p c b 2 0 s b
   ended : (s : Peer) → s .stage ≡ Failed → Leaves p c b 3 0 s b
   -- "Numbers from 10 up change no state and no lent octet, and n = 0."
-  refusal : (k : ℕ) → Refusal c k → Leaves p c b k 0 p b
+  refusal : (k : ℕ) → CanRefuse c k → Leaves p c b k 0 p b
 
 abbrev pub AnswersLeave : Type 0
 AnswersLeave =

@@ -1,6 +1,6 @@
 -- THE PROMISES on one page: document 01's three demands, each a record of statements with the paper's words above them; what is proved beyond them; and
 -- the requests of document 02 that have landed. Every field is a statement of a crate below, whose file has the definitions that it speaks of. No public
--- function has a premise: each contract is an equality to those definitions, for every input.
+-- function has a premise, and the contract of each call is an equality to those definitions.
 use Rattle.answer.specs.Promises.{NumbersListed, NumbersApart}
 use Rattle.des.specs.Rows.{RowsPermute}
 use Rattle.des.specs.Keys.{KeysOdd, KeysBack}
@@ -63,9 +63,12 @@ pub record Demand2 : Type 0 where
   pub reads-formed : ReadsFormed
   -- "Octets after L are padding, ignored on reading."
   pub padding-ignored : PaddingIgnored
+  -- a reading has the packet's Identifier and L, and its places lie within L; with the octets there it is the whole packet, and if C is taken as 16 octets
+  -- the case of its digits alone is free
   pub reading-tells : ReadingTells
   pub read-alike : ReadAlike
   pub read-alike-but-for-case : ReadAlikeButForCase
+  -- packets that differ in their Identifier alone read alike but for it
   pub read-renumbered : ReadRenumbered
   -- what is written reads back, with any padding; "n is a writer's L"
   pub written-reads-back : WrittenReadsBack
@@ -156,7 +159,7 @@ pub record Beyond : Type 0 where
   pub wrong-ends-shut-out : WrongEndsShutOut
   pub pretends-not : PretendsNot
 
--- ---- document 02
+-- ---- document 02: the requests that have landed
 pub record Requests : Type 0 where
   -- [1]: "After the digits either nothing follows, or ` M=` and any octets", "no two Success messages have the same reading"; at the peer the digits decide
   pub success-reads : SuccessReads
