@@ -11,6 +11,7 @@ use Rattle.octets.proofs.Exits.{tested, below}
 use Rattle.answer.specs.Outcome.{Told}
 use Rattle.answer.specs.Sizes.{maxName}
 use Rattle.accounts.specs.Accounts.{codeOf, hashOf, wellFormed, isAccountOf, accountOf, recordOf, Lookup, absent, account, lookupOf, findTold, toldFound}
+use Rattle.accounts.specs.Promises.{FoundApart}
 use Rattle.accounts.specs.declared.Found.{Found}
 use Rattle.accounts.specs.declared.Found.the-variants as found
 use Rattle.accounts.proofs.Lookups.{find-malformed, find-long, find-gives, account-inside, account-hash}
@@ -29,8 +30,8 @@ back found.BadUser = refl
 back found.Absent = refl
 back (found.Account code hash) = refl
 
-pub told-apart : (a b : Found) → toldFound a ≡ toldFound b → a ≡ b
-told-apart a b e = sym (back a) ∙ ap answer e ∙ back b
+pub found-apart : FoundApart
+found-apart a b e = sym (back a) ∙ ap answer e ∙ back b
 
 -- ---- what each answer says
 -- the code of the user's account, and where its hash lies

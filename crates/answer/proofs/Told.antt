@@ -1,14 +1,14 @@
 -- First refusals.
 use Prim.Native.Nat.{ℕ, zero, suc}
 use native.Mathlib.Omega.{arith}
-use mathlib.Core.Path.{_≡_, refl, sym, ap, subst, _∙_}
+use mathlib.Core.Path.{_≡_, refl, sym, subst}
 use mathlib.Core.Bool.{false}
 use lib.Dec.{eqb}
 use borrow.Author.Tests.{ne-eqb}
 use Rattle.answer.specs.Answer.{refusalOf}
 use Rattle.answer.specs.declared.Answer.the-variants.{Written, Refused}
 use Rattle.answer.specs.declared.Refusal.{Refusal}
-use Rattle.answer.specs.Outcome.{Told, gives, refuses, told}
+use Rattle.answer.specs.Outcome.{refuses, told}
 use Rattle.answer.proofs.Apart.{numbers-apart}
 
 -- the number of a refusal is not 0
@@ -19,13 +19,6 @@ pub told-number : {A : Type 0} (k : ℕ) (none x : A) → told k none x .number 
 unfolding told
 told-number zero none x = refl
 told-number (suc k) none x = refl
-
--- what was handed out
-pub told-gives : {A : Type 0} (k : ℕ) (none x y : A) → told k none x ≡ gives y → (k ≡ 0) × (y ≡ x)
-unfolding told
-told-gives {A} k none x y e =
-    let n : k ≡ 0 = sym (told-number k none x) ∙ ap (λ (t : Told A). t .number) e in
-    (n, sym (ap (λ (t : Told A). t .value) (ap (λ (m : ℕ). told m none x) (sym n) ∙ e)))
 
 -- what was refused
 pub told-refuses : {A : Type 0} (k n : ℕ) (none x : A) → n ≡ k → eqb k 0 ≡ false → refuses k none ≡ told n none x

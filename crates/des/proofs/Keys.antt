@@ -9,7 +9,7 @@ use lib.ListN.{length, getD}
 use Rattle.octets.specs.Lists.{cells}
 use Rattle.octets.proofs.Lists.{length-cells, getD-cells, cells-same}
 use Rattle.des.specs.Bits.{bitOf, bitsOf, groupAt}
-use Rattle.des.specs.Keys.{withParity, keyOctet, keyOctets, sevenOf, KeysOdd, KeysBack}
+use Rattle.des.specs.Keys.{withParity, keyOctet, keyOctets, sevenOf, KeysEight, KeysOdd, KeysBack}
 use Rattle.des.proofs.Numbers.{length-bits, getD-bits, groups-bits, bits-groups}
 
 -- the low bit b makes the number of ones odd
@@ -29,7 +29,7 @@ parity-odd n =
 parity-half : (n : ℕ) → withParity n / 2 ≡ n
 parity-half n = omega arith
 
-pub length-key : (k : List ℕ) → length (keyOctets k) ≡ 8
+pub length-key : KeysEight
 unfolding keyOctets
 length-key k = length-cells 8 (keyOctet (bitsOf 8 k))
 

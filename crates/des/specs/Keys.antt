@@ -23,7 +23,10 @@ keyOctets k = cells 8 (keyOctet (bitsOf 8 k))
 unfoldable pub sevenOf : List ℕ → List ℕ
 sevenOf k = cells 7 (groupAt 8 (bitsOf 7 (cells 8 (λ i. getD k i 0 / 2))))
 
--- ---- every octet of a key has an odd number of ones, and the seven octets can be read back
+-- ---- a key has eight octets, every one of which has an odd number of ones, and the seven octets can be read back
+abbrev pub KeysEight : Type 0
+KeysEight = (k : List ℕ) → length (keyOctets k) ≡ 8
+
 abbrev pub KeysOdd : Type 0
 KeysOdd = (k : List ℕ) (i : ℕ) → i < 8 → ones (getD (keyOctets k) i 0) % 2 ≡ 1
 

@@ -10,7 +10,7 @@ use Rattle.octets.specs.declared.Order.{Order}
 use Rattle.octets.specs.declared.Order.the-variants.{Little, Big}
 use Rattle.octets.proofs.Loops.{Turned, turn-done, turning}
 use Rattle.octets.proofs.Lists.{length-cells, getD-cells}
-use Rattle.digest.specs.Blocks.{octetOf, wordOf, blockCount, padded, wordAt, blockAt, chained}
+use Rattle.digest.specs.Blocks.{octetOf, wordOf, blockCount, padded, PaddedFills, wordAt, blockAt, chained}
 
 -- the message, the octet 128 and the zeros
 front : List ℕ → List ℕ
@@ -20,8 +20,7 @@ length-front : (m : List ℕ) → length (front m) ≡ blockCount (length m) * 6
 unfolding front
 length-front m = simp (length-append, length-replicate) (omega arith)
 
--- the padded message fills its blocks
-pub length-padded : (o : Order) (m : List ℕ) → length (padded o m) ≡ blockCount (length m) * 64
+pub length-padded : PaddedFills
 unfolding padded front
 length-padded o m = length-append (front m) (cells 8 (octetOf o 8 (length m * 8))) ∙ omega (arith, length-front m, length-cells 8 (octetOf o 8 (length m * 8)))
 

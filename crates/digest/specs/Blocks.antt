@@ -1,6 +1,7 @@
 -- Octets of numbers, the padded message, its words and blocks (RFC 1320, 2 to 3.4; FIPS 180-1, 2, 4 and 7).
 -- The two digests differ here in the order of a number's octets alone: MD4 has the low one first, SHA-1 the high one.
 use Prim.Native.Nat.{ℕ, _+_, _-_, _*_, _/_, _%_, _^_}
+use mathlib.Core.Path.{_≡_}
 use mathlib.Core.List.{List, _∷_, _++_}
 use lib.ListN.{length, getD, replicate}
 use Rattle.octets.specs.Lists.{cells, turns}
@@ -35,6 +36,10 @@ blockCount n = (n + 9 + 63) / 64
 -- length of the message in bits
 unfoldable pub padded : Order → List ℕ → List ℕ
 padded o m = m ++ (128 ∷ replicate (blockCount (length m) * 64 - (length m + 9)) 0) ++ cells 8 (octetOf o 8 (length m * 8))
+
+-- it fills its blocks
+abbrev pub PaddedFills : Type 0
+PaddedFills = (o : Order) (m : List ℕ) → length (padded o m) ≡ blockCount (length m) * 64
 
 -- ---- words and blocks
 -- the word of the octets k to k + 3 of l

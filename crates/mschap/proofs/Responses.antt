@@ -11,6 +11,7 @@ use Rattle.digest.specs.Sha1.{sha1Of}
 use Rattle.digest.proofs.Digests.{length-md4, length-sha1, sha1-octet}
 use Rattle.mschap.specs.Users.{userStart, userOf}
 use Rattle.mschap.specs.Responses.{passwordHash, challengeHash, blockOf, ntResponse, magic, padding, authenticatorOf, digitsOf}
+use Rattle.mschap.specs.Promises.{ResponsesSized}
 use Rattle.mschap.specs.Answers.{Place, userTold, ntResponseTold, authenticatorTold, toldUser, toldNtResponse, toldAuthenticator}
 use Rattle.mschap.specs.declared.User.{User}
 use Rattle.mschap.specs.declared.NtResponse.{NtResponse}
@@ -23,7 +24,7 @@ pub length-password-hash : (units : List ℕ) → length (passwordHash units) �
 unfolding passwordHash
 length-password-hash units = length-md4 _
 
-pub length-challenge-hash : (peer authenticator user : List ℕ) → length (challengeHash peer authenticator user) ≡ 8
+length-challenge-hash : (peer authenticator user : List ℕ) → length (challengeHash peer authenticator user) ≡ 8
 unfolding challengeHash
 length-challenge-hash peer authenticator user = length-take-le 8 (sha1Of (peer ++ authenticator ++ user)) (omega (arith, length-sha1 (peer ++ authenticator ++ user)))
 
@@ -33,7 +34,7 @@ length-nt-response authenticator peer user hash =
     let c = challengeHash peer authenticator user in
     length-three (blockOf hash c 0) (blockOf hash c 1) (blockOf hash c 2) ∙ omega (arith, length-block hash c 0, length-block hash c 1, length-block hash c 2)
 
-pub length-authenticator : (hash response peer authenticator user : List ℕ) → length (authenticatorOf hash response peer authenticator user) ≡ 20
+length-authenticator : (hash response peer authenticator user : List ℕ) → length (authenticatorOf hash response peer authenticator user) ≡ 20
 unfolding authenticatorOf
 length-authenticator hash response peer authenticator user = length-sha1 _
 
@@ -42,14 +43,19 @@ pub authenticator-octet : (hash response peer authenticator user : List ℕ) (k 
 unfolding authenticatorOf
 authenticator-octet hash response peer authenticator user k = sha1-octet _ k
 
-pub length-digits : (string : List ℕ) → length (digitsOf string) ≡ 40
+length-digits : (string : List ℕ) → length (digitsOf string) ≡ 40
 unfolding digitsOf
 length-digits string = length-cells 40 _
 
--- the constants of the authenticator string have 39 and 41 octets
-pub length-constants : (length magic ≡ 39) × (length padding ≡ 41)
+pub responses-sized : ResponsesSized
 unfolding magic padding
-length-constants = (refl, refl)
+responses-sized = record {
+  challenge-hash = length-challenge-hash;
+  nt-response = length-nt-response;
+  authenticator = length-authenticator;
+  digits = length-digits;
+  constants = (refl, refl);
+}
 
 -- ---- what is given
 pub user-given : (name : List ℕ) → length name ≤ 256 → userTold name ≡ gives (record { start = userStart name; len = length (userOf name) })

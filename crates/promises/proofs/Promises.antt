@@ -1,8 +1,10 @@
 -- The promises hold.
 use Rattle.answer.proofs.Apart.{numbers-listed, numbers-apart}
+use Rattle.digest.proofs.Padding.{length-padded}
 use Rattle.des.proofs.Rows.{rows}
-use Rattle.des.proofs.Keys.{key-odd, key-back}
+use Rattle.des.proofs.Keys.{length-key, key-odd, key-back}
 use Rattle.mschap.proofs.Users.{users-exact}
+use Rattle.mschap.proofs.Responses.{responses-sized}
 use Rattle.packet.proofs.Readings.{read-or-refused, padding-ignored}
 use Rattle.packet.proofs.Conditions.{refused-exactly, read-exactly}
 use Rattle.packet.proofs.Exact.{formed-reads, reads-formed}
@@ -14,6 +16,7 @@ use Rattle.packet.proofs.Back.{written-reads-back, success-reads}
 use Rattle.writers.proofs.Trips.{writers-answer, writers-read-back}
 use Rattle.accounts.proofs.Tables.{tables-exact, checks-exact}
 use Rattle.accounts.proofs.Lookups.{lookups-exact}
+use Rattle.accounts.proofs.Answers.{found-apart}
 use Rattle.verdict.proofs.Rightness.{verdicts-exact}
 use Rattle.peerlaws.proofs.Exact.{new-exact, step-exact, supply-exact, give-up-exact}
 use Rattle.peerlaws.proofs.Promises as peer
@@ -59,6 +62,7 @@ demand1 = record {
   writers-answer = writers-answer;
   check-answers = checks-exact;
   find-answers = lookups-exact;
+  found-apart = found-apart;
   peer-at = peer-answers-at;
   server-at = server-answers-at;
   stateless-at = stateless-answer;
@@ -106,6 +110,9 @@ demand2 = record {
   tables-exact = tables-exact;
   verdicts-exact = verdicts-exact;
   users-exact = users-exact;
+  responses-sized = responses-sized;
+  padded-fills = length-padded;
+  keys-eight = length-key;
   keys-odd = key-odd;
   keys-back = key-back;
   rows-permute = rows;

@@ -2,13 +2,14 @@
 -- the requests of document 02 that have landed. Every field is a statement of a crate below, whose file has the definitions that it speaks of. No public
 -- function has a premise, and the contract of each call is an equality to those definitions.
 use Rattle.answer.specs.Promises.{NumbersListed, NumbersApart}
+use Rattle.digest.specs.Blocks.{PaddedFills}
 use Rattle.des.specs.Rows.{RowsPermute}
-use Rattle.des.specs.Keys.{KeysOdd, KeysBack}
-use Rattle.mschap.specs.Promises.{UsersExact}
+use Rattle.des.specs.Keys.{KeysEight, KeysOdd, KeysBack}
+use Rattle.mschap.specs.Promises.{UsersExact, ResponsesSized}
 use Rattle.packet.specs.Promises.{ReaderAnswers, RefusedExactly, ReadExactly, FormedReads, ReadsFormed, PaddingIgnored, ReadingTells, ReadRenumbered}
 use Rattle.packet.specs.Learned.{ReadAlike, ReadAlikeButForCase, WrittenReadsBack, SuccessReads, SuccessMessagesApart}
 use Rattle.writers.specs.Promises.{WritersAnswer, WritersReadBack}
-use Rattle.accounts.specs.Promises.{TablesExact, ChecksExact, LookupsExact}
+use Rattle.accounts.specs.Promises.{TablesExact, ChecksExact, LookupsExact, FoundApart}
 use Rattle.verdict.specs.Promises.{VerdictsExact}
 use Rattle.peerlaws.specs.Exact.{NewExact, StepExact, SupplyExact, GiveUpExact}
 use Rattle.peerlaws.specs.Promises as peer
@@ -47,6 +48,7 @@ pub record Demand1 : Type 0 where
   pub writers-answer : WritersAnswer
   pub check-answers : ChecksExact
   pub find-answers : LookupsExact
+  pub found-apart : FoundApart
   -- the same of every call at the boundary, whatever the sizes of the slices
   pub peer-at : PeerAnswersAt
   pub server-at : ServerAnswersAt
@@ -117,6 +119,9 @@ pub record Demand2 : Type 0 where
   pub verdicts-exact : VerdictsExact
   -- "Response arithmetic"
   pub users-exact : UsersExact
+  pub responses-sized : ResponsesSized
+  pub padded-fills : PaddedFills
+  pub keys-eight : KeysEight
   pub keys-odd : KeysOdd
   pub keys-back : KeysBack
   pub rows-permute : RowsPermute

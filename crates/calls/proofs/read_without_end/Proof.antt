@@ -2,8 +2,8 @@ use borrow.Author.Needs.{needs}
 use Rattle.calls.proofs.read_without_end.Statement.{statement}
 use Rattle.calls.proofs.read_without_end.Tie as tie
 
-pub read-withoutEnd-spec : {M : Type 1} → statement M
-read-withoutEnd-spec =
+pub read-without-end-spec : {M : Type 1} → statement M
+read-without-end-spec =
     tie.close
     (tie.spec
     (λ c κs. search needs)
