@@ -145,7 +145,7 @@ tells-find t user x (tells-account rs h l e f) =
     sym (find-gives t user (p .0) l ∙ ap gives (rw (p .1, names-first user 0 rs e f) (lookup-some user e (so-named user (e .octets) (f .here)))))
 
 pub lookups-exact : LookupsExact
-lookups-exact = record { does = find-tells; only = tells-find }
+lookups-exact t user = (find-tells t user, tells-find t user)
 
 -- ---- the account of a user in a well-formed table
 all-at : {A : Type 0} {P : A → Type 0} (before : List A) (x : A) (after : List A) → All P (before ++ x ∷ after) → P x

@@ -162,4 +162,4 @@ checks-check t n (checks-malformed f) = sym (pick-true _ _ _ (not-otherwise _ (t
 checks-check t n (checks-formed rs h) = sym (pick-false _ _ _ (not-so _ (so-table t rs h .0)))
 
 pub checks-exact : ChecksExact
-checks-exact = record { does = check-checks; only = checks-check }
+checks-exact t = (check-checks t, checks-check t)

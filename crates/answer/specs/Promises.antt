@@ -1,4 +1,4 @@
--- What holds of the numbers.
+-- What holds of the numbers; and what it is for a relation to be exact.
 use Prim.Native.Nat.{ℕ, _≤_}
 use mathlib.Core.Path.{_≡_}
 use mathlib.Core.Logic.{_⊎_}
@@ -18,3 +18,7 @@ NumbersListed = (a : Answer) → IsListed (numberOf a)
 -- two answers with one number are one answer
 abbrev pub NumbersApart : Type 0
 NumbersApart = (a b : Answer) → numberOf a ≡ numberOf b → a ≡ b
+
+-- ---- of all values R allows x alone: "given exactly when its condition holds", where R has a constructor for each answer and its condition
+abbrev pub Exactly : {A : Type 0} → (A → Type 0) → A → Type 0
+Exactly {A} R x = R x × ((y : A) → R y → y ≡ x)

@@ -6,6 +6,7 @@ use mathlib.Core.List.{List, []}
 use mathlib.Core.Bool.{true, false}
 use lib.ListN.{length, take, replicate}
 use Rattle.answer.specs.Outcome.{gives, Outcome, outcome, refused, fitting}
+use Rattle.answer.specs.Promises.{Exactly}
 use Rattle.answer.specs.Sizes.{maxName}
 use Rattle.packet.specs.declared.End.the-variants as end
 use Rattle.packet.specs.declared.Kind.the-variants as kind
@@ -18,10 +19,6 @@ use Rattle.peer.specs.declared.Peer.{Peer}
 use Rattle.peer.specs.State.{ownName, lastRequest, lastReply, lastId, lastChapId, responseTo, rightDigits, initial, staged, answered, responded, awaiting, supplied}
 use Rattle.peer.specs.Moves.{takes, sent}
 use Rattle.peer.specs.Calls.{newOf, renewedIn, digitsIn, stepOf, responseBy, supplyOf, giveUpOf}
-
--- of all outcomes R allows o alone
-abbrev pub Exactly : (Outcome Peer → Type 0) → Outcome Peer → Type 0
-Exactly R o = R o × ((o′ : Outcome Peer) → R o′ → o′ ≡ o)
 
 -- ---- a packet: k is what was read of it, and q its first L octets
 -- the repeat rule's case: "in the three SENT stages a Request whose first L octets equal the last answered request's"

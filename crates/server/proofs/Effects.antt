@@ -170,7 +170,7 @@ effect-only s c o (no-room m r) = sym (moves-so s m ∙ fitting-not _ s _ r)
 effect-only s c o (moves m r) = sym (moves-so s m ∙ fitting-so _ s _ r)
 
 pub effects-exact : EffectsExact
-effects-exact = record { does = effect; only = effect-only }
+effects-exact s c = (effect s c, effect-only s c)
 
 -- ---- what holds of refusals and of moves holds of every call
 least : {s : Server} {c : Call (List ℕ)} {k : ℕ} → Refuses s c k → 10 ≤ k

@@ -6,6 +6,7 @@ use mathlib.Core.Bool.{true, false}
 use mathlib.Core.List.{List}
 use lib.ListN.{length}
 use Rattle.answer.specs.Outcome.{gives, Outcome, outcome, refused}
+use Rattle.answer.specs.Promises.{Exactly}
 use Rattle.answer.specs.Sizes.{maxName, maxRetries}
 use Rattle.answer.specs.declared.Identifier.{Identifier}
 use Rattle.packet.specs.declared.End.the-variants as end
@@ -86,6 +87,5 @@ pub data Effect (s : Server) (c : Call (List ℕ)) : Outcome Server → Type 0 w
   moves : {o : Outcome Server} → Moves s c o → length (o .octets) ≤ length (replyOf c) → Effect s c o
 
 -- "Each is given exactly when its condition holds and none earlier in the order does."
-pub record EffectsExact : Type 0 where
-  pub does : (s : Server) (c : Call (List ℕ)) → Effect s c (outcomeOf s c)
-  pub only : (s : Server) (c : Call (List ℕ)) (o : Outcome Server) → Effect s c o → o ≡ outcomeOf s c
+abbrev pub EffectsExact : Type 0
+EffectsExact = (s : Server) (c : Call (List ℕ)) → Exactly (Effect s c) (outcomeOf s c)

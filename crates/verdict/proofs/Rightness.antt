@@ -80,7 +80,5 @@ module _ (challenge peer response user table : List ℕ) where
 
 pub verdicts-exact : VerdictsExact
 unfolding judgeOf
-verdicts-exact = record {
-  does = λ challenge peer response name table. judges challenge peer response (userOf name) table;
-  only = λ challenge peer response name table v j. judged challenge peer response (userOf name) table j;
-}
+verdicts-exact challenge peer response name table =
+    (judges challenge peer response (userOf name) table, λ v j. judged challenge peer response (userOf name) table j)

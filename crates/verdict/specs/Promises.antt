@@ -3,6 +3,7 @@ use Prim.Native.Nat.{ℕ}
 use mathlib.Core.Path.{_≡_}
 use mathlib.Core.Bool.{true, false}
 use mathlib.Core.List.{List}
+use Rattle.answer.specs.Promises.{Exactly}
 use Rattle.accounts.specs.Accounts.{codeOf, hashOf, wellFormed, recordOf}
 use Rattle.mschap.specs.Users.{userOf}
 use Rattle.mschap.specs.Responses.{authenticatorOf}
@@ -15,6 +16,5 @@ pub data Judges (challenge peer response user table : List ℕ) : Verdict → Ty
   judges-right : wellFormed table ≡ true → Right challenge peer response user table
       → Judges challenge peer response user table (right (codeOf (recordOf table user)) (authenticatorOf (hashOf (recordOf table user)) response peer challenge user))
 
-pub record VerdictsExact : Type 0 where
-  pub does : (challenge peer response name table : List ℕ) → Judges challenge peer response (userOf name) table (judgeOf challenge peer response name table)
-  pub only : (challenge peer response name table : List ℕ) (v : Verdict) → Judges challenge peer response (userOf name) table v → v ≡ judgeOf challenge peer response name table
+abbrev pub VerdictsExact : Type 0
+VerdictsExact = (challenge peer response name table : List ℕ) → Exactly (Judges challenge peer response (userOf name) table) (judgeOf challenge peer response name table)
