@@ -1,4 +1,5 @@
 pub mod Records
+pub mod Compares
 pub mod Walks
 pub mod Tables
 pub mod Lookups

@@ -28,17 +28,21 @@ pub good-formed : (q : List ℕ) → itemGood q ≡ true → recordGood q ≡ tr
 good-formed q g = passed _ _ g .1
 
 -- a turn's part at the good record q: whether it is an account of the user
-module _ (user q : List ℕ) (kind : ℕ) (k : kind ≡ kindOf q) (h : kind ≡ 1) where
-  pub named-long : recordGood q ≡ true → 22 ≤ length q
-  named-long g = good-so q g (sym k ∙ h) .least
+module _ (q : List ℕ) (kind : ℕ) (k : kind ≡ kindOf q) where
+  pub named-long : recordGood q ≡ true → kind ≡ 1 → 22 ≤ length q
+  named-long g h = good-so q g (sym k ∙ h) .least
 
-  pub named-same : (r : Bool) → r ≡ same (take (length q - 22) (drop 22 q)) user → r ≡ isAccountOf user q
-  unfolding isAccountOf
-  named-same r e = e ∙ ap (λ (l : List ℕ). same l user) (rest-all q 22) ∙ sym (pick-true _ _ _ (eq-eqb _ _ (sym k ∙ h)))
+  pub named-few : recordGood q ≡ true → kind ≡ 1 → length q ≤ 278
+  named-few g h = good-so q g (sym k ∙ h) .most
 
-pub keep-here : (user q : List ℕ) (k : Known) (at code : ℕ) (here : Bool) → here ≡ isAccountOf user q → not here ≡ false → k .hash ≡ 0 → code ≡ codeOf q
-    → record { code = code; hash = at + 6 } ≡ pick (not (isAccountOf user q)) k (pick (eqb (k .hash) 0) (record { code = codeOf q; hash = at + 6 }) k)
-keep-here user q k at code here g i h e = rw e (sym (pick-false _ _ _ (gave-not _ _ _ g i) ∙ pick-true _ _ _ (eq-eqb _ _ h)))
+  module _ (user : List ℕ) (known kept : Known) where
+    pub keep-account : (r : Known) → kind ≡ 1 → r ≡ pick (not (same (drop 22 q) user)) known kept → r ≡ pick (not (isAccountOf user q)) known kept
+    unfolding isAccountOf
+    keep-account r h e = e ∙ ap (λ (b : Bool). pick (not b) known kept) (sym (pick-true _ _ _ (eq-eqb _ _ (sym k ∙ h))))
+
+    pub keep-other : (kind ≡ 1 → ⊥) → known ≡ pick (not (isAccountOf user q)) known kept
+    unfolding isAccountOf
+    keep-other h = sym (pick-true _ _ _ (ap not (pick-false _ _ _ (ne-eqb _ _ (λ e. h (k ∙ e))))))
 
 -- ---- what a walk tells, with an account known of the records before
 abbrev known : Known → Lookup → Lookup
@@ -99,6 +103,17 @@ walk-none t user h =
     let e : length t - length t ≡ 0 = omega arith in
     record { most = omega arith; is = rw e (ap (λ (b : Bool). pick b (gives (lookupOf user (accountOf t user))) (refuses 21 absent)) (pick-false _ false (sound recordGood t) (le-ltb _ _ h))) }
 
+-- a good record, and what is left after it
+module _ (l q : List ℕ) (s : q ≡ head l) (g : itemGood q ≡ true) where
+  there : length q ≡ 0 → ⊥
+  there = eqb-false _ _ (passed _ _ g .0)
+
+  pub walk-fits : length q ≤ length l
+  walk-fits = next l q s there .fits
+
+  pub walk-less : length (take (length l - length q) (drop (length q) l)) < length l
+  walk-less = let z : length q ≡ 0 → ⊥ = there in rw (rest-all l (length q)) (omega (arith, walk-fits, length-drop (length q) l))
+
 -- a turn at the record q, or at none
 module _ (t user : List ℕ) (k : Known) (l q : List ℕ) (w : Walking t user k l) (h : 0 < length l) (s : q ≡ head l) where
   pub walk-bad : itemGood q ≡ false → refuses 21 absent ≡ told t user
@@ -112,28 +127,53 @@ module _ (t user : List ℕ) (k : Known) (l q : List ℕ) (w : Walking t user k 
           let p = next l q s (eqb-false _ _ z) in
           sym (w .is ∙ ap (sees t user k _) (p .is) ∙ sees-bad t user k _ q _ (and-second _ _ (p .framed) (sym (pick-false _ _ _ z) ∙ g)))
 
-  module _ (g : itemGood q ≡ true) where
-    there : length q ≡ 0 → ⊥
-    there = eqb-false _ _ (passed _ _ g .0)
-
-    pub walk-fits : length q ≤ length l
-    walk-fits = next l q s there .fits
-
-    pub walk-less : length (take (length l - length q) (drop (length q) l)) < length l
-    walk-less = let z : length q ≡ 0 → ⊥ = there in rw (rest-all l (length q)) (omega (arith, length-drop (length q) l))
-
-    pub walk-more : (m : Known) → m ≡ kept t user k (length t - length l) q (records (drop (length q) l)) → Walking t user m (take (length l - length q) (drop (length q) l))
-    walk-more m e =
-        let p = next l q s there in
-        let d = length-drop (length q) l in
-        let a : length t - length (drop (length q) l) ≡ length t - length l + length q = omega (arith, w .most) in
-        rw (rest-all l (length q)) record {
-          most = omega (arith, w .most);
-          is = w .is ∙ ap (sees t user k _) (p .is) ∙ sees-more t user k _ q _ (p .framed) (good-formed q g) ∙ rw (e, a);
-        }
+  pub walk-more : itemGood q ≡ true → (m : Known) → m ≡ kept t user k (length t - length l) q (records (drop (length q) l)) → Walking t user m (take (length l - length q) (drop (length q) l))
+  walk-more g m e =
+      let p = next l q s (there l q s g) in
+      let d = length-drop (length q) l in
+      let a : length t - length (drop (length q) l) ≡ length t - length l + length q = omega (arith, w .most) in
+      rw (rest-all l (length q)) record {
+        most = omega (arith, w .most);
+        is = w .is ∙ ap (sees t user k _) (p .is) ∙ sees-more t user k _ q _ (p .framed) (good-formed q g) ∙ rw (e, a);
+      }
 
 pub walk-done : (t user : List ℕ) (k : Known) (l : List ℕ) (x : Told Lookup) → Walking t user k l → length l ≤ 0 → x ≡ gives (known k absent) → x ≡ told t user
 walk-done t user k l x w h e = e ∙ sym (w .is ∙ ap (sees t user k _) (ends l (omega arith)) ∙ sees-none t user k _)
+
+-- ---- a walk that looks for nobody
+pub record Forming (t l : List ℕ) : Type 0 where
+  pub is : wellFormed t ≡ every (λ r. framed r && recordGood r) (records l)
+
+pub form-long : (t : List ℕ) → 65536 < length t → false ≡ wellFormed t
+unfolding wellFormed
+form-long t h = sym (pick-true _ _ _ (lt-ltb _ _ h))
+
+pub form-none : (t : List ℕ) → length t ≤ 65536 → Forming t t
+unfolding wellFormed sound
+form-none t h = record { is = pick-false _ _ _ (le-ltb _ _ h) }
+
+module _ (t l q : List ℕ) (w : Forming t l) (h : 0 < length l) (s : q ≡ head l) where
+  pub form-bad : itemGood q ≡ false → false ≡ wellFormed t
+  unfolding every
+  form-bad g = tested (eqb (length q) 0) none off
+    where
+      none : eqb (length q) 0 ≡ true → false ≡ wellFormed t
+      none z = let p = stops l q s h (eqb-true _ _ z) in sym (w .is ∙ ap (every (λ r. framed r && recordGood r)) (p .is) ∙ pick-false _ _ _ (and-first _ _ (p .framed)))
+
+      off : eqb (length q) 0 ≡ false → false ≡ wellFormed t
+      off z =
+          let p = next l q s (eqb-false _ _ z) in
+          sym (w .is ∙ ap (every (λ r. framed r && recordGood r)) (p .is) ∙ pick-false _ _ _ (and-second _ _ (p .framed) (sym (pick-false _ _ _ z) ∙ g)))
+
+  pub form-more : itemGood q ≡ true → Forming t (take (length l - length q) (drop (length q) l))
+  unfolding every
+  form-more g =
+      let p = next l q s (there l q s g) in
+      rw (rest-all l (length q)) record { is = w .is ∙ ap (every (λ r. framed r && recordGood r)) (p .is) ∙ pick-true _ _ _ (and-both _ _ (p .framed) (good-formed q g)) }
+
+pub form-done : (t l : List ℕ) → Forming t l → length l ≤ 0 → true ≡ wellFormed t
+unfolding every
+form-done t l w h = sym (w .is ∙ ap (every (λ r. framed r && recordGood r)) (ends l (omega arith)))
 
 -- ---- what the walk told
 module _ (t user : List ℕ) (x : Told Lookup) (e : x ≡ told t user) (m : Bool) (i : m ≡ eqb (x .number) 21) where
@@ -158,3 +198,5 @@ module _ (t user : List ℕ) (x : Told Lookup) (e : x ≡ told t user) (m : Bool
   find-there h l = e ∙ pick-true _ _ _ (not-false _ (sym walk-formed ∙ h)) ∙ sym (pick-false _ _ _ (sym walk-formed ∙ h) ∙ pick-false _ _ _ (le-ltb _ _ l))
 
 pub ruleset walks = (exits, gave-true, gave-false, good-formed, walk-long, walk-none, walk-bad, walk-fits, walk-less, walk-more, walk-done)
+
+pub ruleset forms = (exits, gave-true, gave-false, walk-fits, walk-less, form-long, form-none, form-bad, form-more, form-done)

@@ -1,18 +1,20 @@
 // The account table of document 01: whether it is well formed, and the account of a user.
+mod names;
+
 ghost use mathlib.Core.Path.{_≡_};
 ghost use mathlib.Core.Bool.{true, false, not};
 ghost use Prim.Native.Nat.{_+_, _≤_};
-ghost use lib.ListN.{length};
+ghost use lib.ListN.{length, drop};
 ghost use lib.Dec.{eqb};
 ghost use Rattle.octets.specs.Choice.{pick};
+ghost use Rattle.octets.specs.Octets.{same};
 ghost use Rattle.answer.specs.Answer.{numberOf};
 ghost use Rattle.answer.specs.Outcome.{gives, refuses};
-ghost use Rattle.accounts.specs.Inner.{head};
+ghost use Rattle.accounts.specs.Inner.{head, sought, nameMask};
 ghost use Rattle.accounts.specs.Accounts.{codeOf, isCode, accountGood, recordGood, wellFormed, isAccountOf, accountOf, absent, account, lookupOf, checkNumber, findTold, toldFound};
 use answer::Answer;
 use answer::Refusal;
 use octets::Order;
-use octets::equal;
 use octets::number_at;
 use octets::octet;
 
@@ -105,29 +107,37 @@ fn item_good(item: &[u8]) -> bool
     record_good(item)
 }
 
-// Whether a record that keeps to the form of its kind is an account of the user.
-fn is_account_of(user: &[u8], item: &[u8]) -> bool
-    requires { ⌜ recordGood (now item) ≡ true ⌝ }
-    ensures { λ r. ⌜ r ≡ isAccountOf (now (user .entry)) (now (item .entry)) ⌝ }
+// The account found before, or else this one if it is there.
+fn choose(known: Known, here: bool, code: u16, hash: usize) -> Known
+    ensures { λ r. ⌜ r ≡ pick (not here) known (pick (eqb (known .hash) 0) (record { code = code; hash = hash }) known) ⌝ }
 {
-    let kind = number_at(Order::Little, item, 2);
-    if kind == 1 {
-        return equal(&item[22..], user);
-    }
-    false
-}
-
-// The account found before, or else the record at `at` if it is one: it is looked at in any case.
-fn keep(known: Known, user: &[u8], at: usize, item: &[u8]) -> Known
-    requires { ⌜ (at ≤ 65536) × (recordGood (now item) ≡ true) ⌝ }
-    ensures { λ r. ⌜ r ≡ pick (not (isAccountOf (now (user .entry)) (now (item .entry)))) known (pick (eqb (known .hash) 0) (record { code = codeOf (now (item .entry)); hash = at + 6 }) known) ⌝ }
-{
-    if !is_account_of(user, item) {
+    if !here {
         return known;
     }
     if known.hash == 0 {
-        let code = code_of(item);
-        return Known { code, hash: at + 6 };
+        return Known { code, hash };
+    }
+    known
+}
+
+// The account found before, or else the account at `at` if it is the user's: it is looked at in any case.
+fn keep_account(known: Known, user: &[u8], own: &[u8], mask: &[u8], at: usize, item: &[u8]) -> Known
+    requires { ⌜ (at ≤ 65536) × (22 ≤ length (now item)) × (length (now item) ≤ 278) × (now own ≡ sought (now user)) × (now mask ≡ nameMask) ⌝ }
+    ensures { λ r. ⌜ r ≡ pick (not (same (drop 22 (now (item .entry))) (now (user .entry)))) known (pick (eqb (known .hash) 0) (record { code = codeOf (now (item .entry)); hash = at + 6 }) known) ⌝ }
+{
+    let here = names::is_name(user, own, mask, item);
+    let code = code_of(item);
+    choose(known, here, code, at + 6)
+}
+
+// The same of a record of any kind that keeps to its form.
+fn keep(known: Known, user: &[u8], own: &[u8], mask: &[u8], at: usize, item: &[u8]) -> Known
+    requires { ⌜ (at ≤ 65536) × (recordGood (now item) ≡ true) × (now own ≡ sought (now user)) × (now mask ≡ nameMask) ⌝ }
+    ensures { λ r. ⌜ r ≡ pick (not (isAccountOf (now (user .entry)) (now (item .entry)))) known (pick (eqb (known .hash) 0) (record { code = codeOf (now (item .entry)); hash = at + 6 }) known) ⌝ }
+{
+    let kind = number_at(Order::Little, item, 2);
+    if kind == 1 {
+        return keep_account(known, user, own, mask, at, item);
     }
     known
 }
@@ -144,9 +154,10 @@ fn found_of(known: Known) -> Found
     }
 }
 
-// One walk, which goes on past the user's account to the end of the table.
+// One walk, which goes on past the user's account to the end of the table, and whose work depends on the table alone.
 // It carries the octets that are left and not a place, which saves an addition from one record to the next.
-fn walk(table: &[u8], user: &[u8]) -> Found
+fn walk_by(table: &[u8], user: &[u8], own: &[u8], mask: &[u8]) -> Found
+    requires { ⌜ (now own ≡ sought (now user)) × (now mask ≡ nameMask) ⌝ }
     ensures { λ r. ⌜ toldFound r ≡ pick (wellFormed (now (table .entry))) (gives (lookupOf (now (user .entry)) (accountOf (now (table .entry)) (now (user .entry))))) (refuses 21 absent) ⌝ }
 {
     if 65536 < table.len() {
@@ -159,11 +170,19 @@ fn walk(table: &[u8], user: &[u8]) -> Found
         if !item_good(item) {
             return Found::Malformed;
         }
-        known = keep(known, user, table.len() - left.len(), item);
+        known = keep(known, user, own, mask, table.len() - left.len(), item);
         let n = item.len();
         left = &left[n..];
     }
     found_of(known)
+}
+
+fn walk(table: &[u8], user: &[u8]) -> Found
+    ensures { λ r. ⌜ toldFound r ≡ pick (wellFormed (now (table .entry))) (gives (lookupOf (now (user .entry)) (accountOf (now (table .entry)) (now (user .entry))))) (refuses 21 absent) ⌝ }
+{
+    let own = names::laid(user);
+    let mask = names::mask();
+    walk_by(table, user, &own, &mask)
 }
 
 fn is_malformed(found: Found) -> bool
@@ -177,12 +196,30 @@ fn is_malformed(found: Found) -> bool
     }
 }
 
+// One walk that looks for nobody.
+fn is_formed(table: &[u8]) -> bool
+    ensures { λ r. ⌜ r ≡ wellFormed (now (table .entry)) ⌝ }
+{
+    if 65536 < table.len() {
+        return false;
+    }
+    let mut left = table;
+    while 0 < left.len() {
+        let item = first_record(left);
+        if !item_good(item) {
+            return false;
+        }
+        let n = item.len();
+        left = &left[n..];
+    }
+    true
+}
+
 // Whether a table is well formed: answers 0 or 21.
 pub fn check(table: &[u8]) -> Answer
     ensures { λ r. ⌜ numberOf r ≡ checkNumber (now (table .entry)) ⌝ }
 {
-    let found = walk(table, b"");
-    if is_malformed(found) {
+    if !is_formed(table) {
         return Answer::Refused(Refusal::BadTable);
     }
     Answer::Written

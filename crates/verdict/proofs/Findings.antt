@@ -1,8 +1,8 @@
 -- What a lookup tells of the verdict.
 use Prim.Native.Nat.{ℕ, _+_, _≤_}
-use mathlib.Core.Path.{_≡_, sym, ap, _∙_}
+use mathlib.Core.Path.{_≡_, refl, sym, ap, _∙_}
 use mathlib.Core.List.{List}
-use mathlib.Core.Bool.{true, false, not}
+use mathlib.Core.Bool.{Bool, true, false, not}
 use native.Mathlib.Omega.{arith}
 use lib.ListN.{length, drop, length-drop}
 use Rattle.octets.specs.Choice.{pick}
@@ -16,47 +16,53 @@ use Rattle.accounts.specs.Accounts.{wellFormed, isAccountOf, recordOf, findTold
 use Rattle.accounts.proofs.Lookups.{account-short}
 use Rattle.accounts.proofs.Answers.{found-says}
 use Rattle.verdict.specs.declared.Verdict.{Verdict}
-use Rattle.verdict.specs.Inner.{weighed}
+use Rattle.verdict.specs.Inner.{malformed, known, codeIn, placeIn, weighed}
 use Rattle.verdict.specs.Verdict.{badTable, judgeUser}
-
-pub hash-is : (table r : List ℕ) (place : ℕ) → place + 16 ≤ length table → r ≡ sized 16 (drop place table) → r ≡ part table place 16
-hash-is table r place h e = e ∙ sized-take 16 (drop place table) (omega (arith, length-drop place table))
-
-module _ (challenge peer response user table : List ℕ) where
-  -- where there is no account
-  unknown : wellFormed table ≡ true → isAccountOf user (recordOf table user) ≡ false → (v : Verdict) (hash : List ℕ) → v ≡ weighed false 0 hash challenge peer response user
-      → v ≡ judgeUser challenge peer response user table
-  unfolding judgeUser weighed pick
-  unknown w n v hash e = e ∙ sym (pick-false _ _ _ (ap not w) ∙ pick-true _ _ _ (ap not n))
-
-  module _ (f : Found) (told : toldFound f ≡ findTold table user) where
-    pub judge-malformed : f ≡ found.Malformed → badTable ≡ judgeUser challenge peer response user table
-    unfolding judgeUser
-    judge-malformed h = sym (pick-true _ _ _ (ap not (found-says table user f found.Malformed told h)))
-
-    -- a user of more than 256 octets has no account
-    pub judge-long : (v : Verdict) (hash : List ℕ) → f ≡ found.BadUser → v ≡ weighed false 0 hash challenge peer response user → v ≡ judgeUser challenge peer response user table
-    judge-long v hash h =
-        let s = found-says table user f found.BadUser told h in
-        unknown (s .0) (tested (isAccountOf user (recordOf table user)) (λ i. let l = account-short table user (s .0) i in absurd (omega (arith, s .1))) (λ i. i)) v hash
-
-    pub judge-absent : (v : Verdict) (hash : List ℕ) → f ≡ found.Absent → v ≡ weighed false 0 hash challenge peer response user → v ≡ judgeUser challenge peer response user table
-    judge-absent v hash h = let s = found-says table user f found.Absent told h in unknown (s .0) (s .1) v hash
-
-    pub judge-account : (v : Verdict) (code place : ℕ) → f ≡ found.Account code place → v ≡ weighed true code (part table place 16) challenge peer response user
-        → v ≡ judgeUser challenge peer response user table
-    unfolding judgeUser weighed
-    judge-account v code place h e =
-        let s = found-says table user f (found.Account code place) told h in
-        e ∙ sym (pick-false _ _ _ (ap not (s .formed)) ∙ rw (s .here, ← s .coded, ← s .hashed))
-
-module _ (user table : List ℕ) (f : Found) (code place : ℕ) (told : toldFound f ≡ findTold table user) (h : f ≡ found.Account code place) where
-  pub found-short : length user ≤ maxName
-  found-short = found-says table user f (found.Account code place) told h .sized
-
-  -- the hash lies in the table
-  pub found-inside : place + 16 ≤ length table
-  found-inside = found-says table user f (found.Account code place) told h .inside
 
 pub never : {A : Type 0} → false ≡ true → A
 never e = let z : _≡_ {A = ℕ} 0 1 = cc in absurd (omega arith)
+
+module _ (challenge peer response user table : List ℕ) where
+  -- where there is no account
+  unknown : wellFormed table ≡ true → isAccountOf user (recordOf table user) ≡ false → (v : Verdict) (code : ℕ) (hash : List ℕ) → v ≡ weighed false code hash challenge peer response user
+      → v ≡ judgeUser challenge peer response user table
+  unfolding judgeUser weighed pick
+  unknown w n v code hash e = e ∙ sym (pick-false _ _ _ (ap not w) ∙ pick-true _ _ _ (ap not n))
+
+  pub judge-malformed : (f : Found) (b : Bool) → toldFound f ≡ findTold table user → b ≡ malformed f → b ≡ true → badTable ≡ judgeUser challenge peer response user table
+  unfolding judgeUser
+  judge-malformed found.Malformed b told e t = sym (pick-true _ _ _ (ap not (found-says table user found.Malformed found.Malformed told refl)))
+  judge-malformed found.BadUser b told e t = never (sym e ∙ t)
+  judge-malformed found.Absent b told e t = never (sym e ∙ t)
+  judge-malformed (found.Account code place) b told e t = never (sym e ∙ t)
+
+  -- where there is one
+  granted : (code place : ℕ) → toldFound (found.Account code place) ≡ findTold table user → (v : Verdict) → v ≡ weighed true code (part table place 16) challenge peer response user
+      → v ≡ judgeUser challenge peer response user table
+  unfolding judgeUser weighed
+  granted code place told v e =
+      let s = found-says table user (found.Account code place) (found.Account code place) told refl in
+      e ∙ sym (pick-false _ _ _ (ap not (s .formed)) ∙ rw (s .here, ← s .coded, ← s .hashed))
+
+  -- a Response that was weighed by what was found
+  pub judge-weighed : (f : Found) (b here : Bool) (code place : ℕ) (hash : List ℕ) (v : Verdict) → toldFound f ≡ findTold table user → b ≡ malformed f → b ≡ false → here ≡ known f → code ≡ codeIn f → place ≡ placeIn f
+      → hash ≡ sized 16 (drop place table) → v ≡ weighed here code hash challenge peer response user → v ≡ judgeUser challenge peer response user table
+  judge-weighed found.Malformed b here code place hash v told e t k c p h w = never (sym t ∙ e)
+  -- a user of more than 256 octets has no account
+  judge-weighed found.BadUser b here code place hash v told e t k c p h w =
+      let s = found-says table user found.BadUser found.BadUser told refl in
+      unknown (s .0) (tested (isAccountOf user (recordOf table user)) (λ i. let l = account-short table user (s .0) i in absurd (omega (arith, s .1))) (λ i. i)) v code hash (rw k at w)
+  judge-weighed found.Absent b here code place hash v told e t k c p h w =
+      let s = found-says table user found.Absent found.Absent told refl in unknown (s .0) (s .1) v code hash (rw k at w)
+  judge-weighed (found.Account code′ place′) b here code place hash v told e t k c p h w =
+      let s = found-says table user (found.Account code′ place′) (found.Account code′ place′) told refl in
+      let inside : 16 ≤ length (drop place′ table) = omega (arith, s .inside, length-drop place′ table) in
+      let i : hash ≡ part table place′ 16 = h ∙ ap (λ (n : ℕ). sized 16 (drop n table)) p ∙ sized-take 16 (drop place′ table) inside in
+      granted code′ place′ told v (w ∙ (λ j. weighed (k j) (c j) (i j) challenge peer response user))
+
+-- what was found of an account has a user of at most 256 octets
+pub known-short : (user table : List ℕ) (f : Found) (here : Bool) → toldFound f ≡ findTold table user → here ≡ known f → here ≡ true → length user ≤ maxName
+known-short user table found.Malformed here told e t = never (sym e ∙ t)
+known-short user table found.BadUser here told e t = never (sym e ∙ t)
+known-short user table found.Absent here told e t = never (sym e ∙ t)
+known-short user table (found.Account code place) here told e t = found-says table user (found.Account code place) (found.Account code place) told refl .sized

@@ -1,13 +1,12 @@
 // The verdict on a Response: the only code that looks into the account table.
 ghost use mathlib.Core.Path.{_≡_};
 ghost use mathlib.Core.Bool.{true};
-ghost use Prim.Native.Nat.{_+_, _≤_};
+ghost use Prim.Native.Nat.{_≤_};
 ghost use lib.ListN.{length};
 ghost use Rattle.octets.specs.Octets.{same};
 ghost use Rattle.answer.specs.Sizes.{maxName};
 ghost use Rattle.mschap.specs.Responses.{ntResponse, authenticatorOf};
-ghost use Rattle.octets.specs.Lists.{part};
-ghost use Rattle.verdict.specs.Inner.{weighed};
+ghost use Rattle.verdict.specs.Inner.{malformed, known, codeIn, placeIn, weighed};
 ghost use Rattle.verdict.specs.Verdict.{judgeUser, judgeOf};
 use accounts::Found;
 
@@ -67,7 +66,8 @@ fn string_of(
     made.octets
 }
 
-// An NT-Response is computed in any case: from sixteen zeros where there is no account.
+// An NT-Response is computed and compared in any case, and before it is asked whether there is an account: what is not the
+// computed one costs the same with and without.
 fn weigh(
     known: bool,
     code: u16,
@@ -81,10 +81,10 @@ fn weigh(
     ensures { λ r. ⌜ r ≡ weighed known code hash challenge peer response (now (user .entry)) ⌝ }
 {
     let computed = is_computed(challenge, peer, response, user, hash);
-    if !known {
+    if !computed {
         return WRONG;
     }
-    if !computed {
+    if !known {
         return WRONG;
     }
     let string = string_of(hash, challenge, peer, response, user);
@@ -95,30 +95,53 @@ fn weigh(
     }
 }
 
-// The hash at a place.
-fn hash_at(table: &[u8], place: usize) -> [u8; 16]
-    requires { ⌜ place + 16 ≤ length (now table) ⌝ }
-    ensures { λ r. ⌜ r ≡ part (now (table .entry)) place 16 ⌝ }
+// ---- what a lookup found, as values: where there is no account, the code 0 and the place 0
+
+fn is_malformed(found: Found) -> bool
+    ensures { λ r. ⌜ r ≡ malformed found ⌝ }
 {
-    packet::sixteen_at(table, place)
+    match found {
+        Found::Malformed => true,
+        Found::BadUser => false,
+        Found::Absent => false,
+        Found::Account { code, hash } => false,
+    }
 }
 
-fn weigh_account(
-    code: u16,
-    place: usize,
-    challenge: [u8; 16],
-    peer: [u8; 16],
-    response: [u8; 24],
-    user: &[u8],
-    table: &[u8],
-) -> Verdict
-    requires { ⌜ (length (now user) ≤ maxName) × (place + 16 ≤ length (now table)) ⌝ }
-    ensures { λ r. ⌜ r ≡ weighed true code (part (now (table .entry)) place 16) challenge peer response (now (user .entry)) ⌝ }
+fn is_known(found: Found) -> bool
+    ensures { λ r. ⌜ r ≡ known found ⌝ }
 {
-    let hash = hash_at(table, place);
-    weigh(true, code, hash, challenge, peer, response, user)
+    match found {
+        Found::Malformed => false,
+        Found::BadUser => false,
+        Found::Absent => false,
+        Found::Account { code, hash } => true,
+    }
 }
 
+fn code_in(found: Found) -> u16
+    ensures { λ r. ⌜ r ≡ codeIn found ⌝ }
+{
+    match found {
+        Found::Malformed => 0,
+        Found::BadUser => 0,
+        Found::Absent => 0,
+        Found::Account { code, hash } => code,
+    }
+}
+
+fn place_in(found: Found) -> usize
+    ensures { λ r. ⌜ r ≡ placeIn found ⌝ }
+{
+    match found {
+        Found::Malformed => 0,
+        Found::BadUser => 0,
+        Found::Absent => 0,
+        Found::Account { code, hash } => hash,
+    }
+}
+
+// A Response is weighed in the same way whether its user has an account or not: without one, by the first octets of the table.
 fn judge_user(
     challenge: [u8; 16],
     peer: [u8; 16],
@@ -129,20 +152,14 @@ fn judge_user(
     ensures { λ r. ⌜ r ≡ judgeUser challenge peer response (now (user .entry)) (now (table .entry)) ⌝ }
 {
     let found = accounts::find(table, user);
-    match found {
-        Found::Malformed => MALFORMED,
-        Found::BadUser => weigh(false, 0, [0u8; 16], challenge, peer, response, user),
-        Found::Absent => weigh(false, 0, [0u8; 16], challenge, peer, response, user),
-        Found::Account { code, hash } => weigh_account(
-            code,
-            hash,
-            challenge,
-            peer,
-            response,
-            user,
-            table,
-        ),
+    if is_malformed(found) {
+        return MALFORMED;
     }
+    let here = is_known(found);
+    let code = code_in(found);
+    let place = place_in(found);
+    let hash = packet::sixteen_at(table, place);
+    weigh(here, code, hash, challenge, peer, response, user)
 }
 
 // A Response's peer challenge, NT-Response and name, to the outstanding challenge.

@@ -1,6 +1,5 @@
 use Rattle.accounts.specs.Accounts.{checkNumber}
-use Rattle.octets.proofs.Exits.{exits, gave}
-use Rattle.accounts.proofs.Walks.{walk-formed}
+use Rattle.octets.proofs.Exits.{exits}
 use Rattle.accounts.proofs.check.Statement.{statement}
 use Rattle.accounts.proofs.check.Tie as tie
 
@@ -9,8 +8,6 @@ unfolding checkNumber
 check-spec =
     tie.close
     (tie.spec
+    (λ c κs. search exits)
     (λ c. search exits)
-    (λ c κs. search exits)
-    (λ c κs. search exits)
-    (λ c. search (exits, gave, walk-formed))
-    (λ c. search (exits, gave, walk-formed)))
+    (λ c. search exits))

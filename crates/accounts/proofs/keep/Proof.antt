@@ -1,6 +1,5 @@
 use Rattle.octets.proofs.Exits.{exits}
-use Rattle.accounts.proofs.Walks.{keep-here}
-use borrow.Author.Needs.{needs}
+use Rattle.accounts.proofs.Walks.{named-long, named-few, keep-account, keep-other}
 use Rattle.accounts.proofs.keep.Statement.{statement}
 use Rattle.accounts.proofs.keep.Tie as tie
 
@@ -8,9 +7,7 @@ pub keep-spec : {M : Type 1} → statement M
 keep-spec =
     tie.close
     (tie.spec
-    (λ c κs. search needs)
-    (λ c. search exits)
-    (λ c κs. search needs)
-    (λ c. search needs)
-    (λ c. search (needs, keep-here))
-    (λ c. search exits))
+    (λ c κs. search exits)
+    (λ c κs. search (exits, named-long, named-few))
+    (λ c. search (exits, keep-account))
+    (λ c. search (exits, keep-other)))

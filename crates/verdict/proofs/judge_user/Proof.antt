@@ -1,4 +1,4 @@
-use Rattle.verdict.proofs.Findings.{judge-malformed, judge-long, judge-absent, judge-account, found-short, found-inside, never}
+use Rattle.verdict.proofs.Findings.{judge-malformed, judge-weighed, known-short}
 use borrow.Author.Needs.{needs}
 use Rattle.verdict.proofs.judge_user.Statement.{statement}
 use Rattle.verdict.proofs.judge_user.Tie as tie
@@ -8,14 +8,11 @@ judge-user-spec =
     tie.close
     (tie.spec
     (λ c κs. search needs)
-    (λ c. search needs)
-    (λ c. search needs)
-    (λ c κs. search (needs, never))
-    (λ c. search needs)
-    (λ c κs. search (needs, never))
-    (λ c. search needs)
-    (λ c κs. search (needs, found-short, found-inside))
+    (λ c κs. search needs)
     (λ c. search (needs, judge-malformed))
-    (λ c. search (needs, judge-long))
-    (λ c. search (needs, judge-absent))
-    (λ c. search (needs, judge-account)))
+    (λ c κs. search needs)
+    (λ c κs. search needs)
+    (λ c κs. search needs)
+    (λ c κs. search needs)
+    (λ c κs. search (needs, known-short))
+    (λ c. search (needs, judge-weighed)))

@@ -11,7 +11,7 @@ weigh-spec =
     tie.close
     (tie.spec
     (λ c κs. search needs)
+    (λ c. weigh-wrong _ _ _ _ _ _ _ _ (c .before .before .before .pre) (c .before .is-computed .ensures) (c .if1 .taken))
     (λ c. search exits)
-    (λ c. weigh-wrong _ _ _ _ _ _ _ _ (c .before .before .before .before .pre) (c .before .if1 .left) (c .before .before .is-computed .ensures) (c .if2 .taken))
-    (λ c κs. known-so _ (c .before .before .before .before .pre) (c .before .if1 .left))
-    (λ c. weigh-right _ _ _ _ _ _ _ _ (c .before .before .before .before .before .pre) (c .before .before .if1 .left) (c .before .before .before .is-computed .ensures) _ (c .before .if2 .left) (c .string-of .ensures)))
+    (λ c κs. known-so _ (c .before .before .before .before .pre) (c .if2 .left))
+    (λ c. weigh-right _ _ _ _ _ _ _ _ (c .before .before .before .before .before .pre) (c .before .before .before .is-computed .ensures) _ (c .before .before .if1 .left) (c .before .if2 .left) (c .string-of .ensures)))
