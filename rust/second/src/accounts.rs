@@ -1,6 +1,6 @@
 //! The account table: lent octets, records end to end (document 01, "Account table").
 
-use crate::number::{BAD_ARGUMENT, BAD_TABLE};
+use crate::number::{BAD_ARGUMENT, BAD_TABLE, NO_ROOM};
 use crate::{Octets16, MAX_NAME, MAX_TABLE};
 
 /// What the table says of a user.
@@ -35,6 +35,47 @@ pub fn find(table: &[u8], user: &[u8]) -> Result<Option<Account>, u8> {
         return Err(BAD_ARGUMENT);
     }
     Ok(found)
+}
+
+/// Adds an account after the table that is the buffer's first `used` octets, and answers the
+/// table's new length. 23 where the buffer has fewer octets; then 21, 23 for what has no record,
+/// and 20 where the longer table has no room in the buffer or is over 65,536 octets.
+pub fn append(
+    buffer: &mut [u8],
+    used: usize,
+    code: u64,
+    hash: &Octets16,
+    name: &[u8],
+) -> Result<usize, u8> {
+    check(buffer.get(..used).ok_or(BAD_ARGUMENT)?)?;
+    let record = record_of(code, hash, name).ok_or(BAD_ARGUMENT)?;
+    let end = used + record.len();
+    if end > MAX_TABLE {
+        return Err(NO_ROOM);
+    }
+    let room = buffer.get_mut(used..end).ok_or(NO_ROOM)?;
+    room.copy_from_slice(&record);
+    Ok(end)
+}
+
+/// The kind-1 record, if there is one with that code and name.
+fn record_of(code: u64, hash: &Octets16, name: &[u8]) -> Option<Vec<u8>> {
+    let code = u16::try_from(code).ok().filter(|code| is_code(*code))?;
+    if name.len() > MAX_NAME {
+        return None;
+    }
+    let length = (ACCOUNT_NAME + name.len()) as u16;
+    let mut record = Vec::with_capacity(MAX_ACCOUNT);
+    for number in [length, ACCOUNT_KIND, code] {
+        record.extend(number.to_le_bytes());
+    }
+    record.extend(hash);
+    record.extend(name);
+    Some(record)
+}
+
+fn is_code(code: u16) -> bool {
+    matches!(code, 0 | 646..=649)
 }
 
 /// Looks at every octet of names of one length, and at names after the account's too.
@@ -77,7 +118,7 @@ fn account_form(record: &[u8]) -> Option<(Account, &[u8])> {
         return None;
     }
     let code = word(record, 4);
-    if !matches!(code, 0 | 646..=649) {
+    if !is_code(code) {
         return None;
     }
     let mut hash = [0; 16];

@@ -3,7 +3,7 @@
 mod common;
 
 use common::*;
-use second::accounts::{check, find, Account};
+use second::accounts::{append, check, find, Account};
 
 const OTHER: [u8; 16] = *b"another hash 16.";
 
@@ -112,4 +112,63 @@ fn the_first_of_that_name() {
         }))
     );
     assert_eq!(find(&table, b"frz\0"), Ok(None));
+}
+
+#[test]
+fn appended() {
+    let mut buffer = [0xee; 80];
+    assert_eq!(append(&mut buffer, 0, 0, &HASH, b"frz"), Ok(25));
+    assert_eq!(append(&mut buffer, 25, 649, &OTHER, b""), Ok(47));
+    let table = [account(0, &HASH, b"frz"), account(649, &OTHER, b"")].concat();
+    assert_eq!(buffer[..47], table);
+    assert_eq!(buffer[47..], [0xee; 33]);
+    let found = Account {
+        code: 649,
+        hash: OTHER,
+    };
+    assert_eq!(find(&buffer[..47], b""), Ok(Some(found)));
+}
+
+/// Each refusal where the later ones hold too, and the buffer as it was.
+#[test]
+fn not_appended() {
+    let good = account(0, &HASH, b"frz");
+    let bad = [&good[..], &[0]].concat();
+    let long = [b'n'; 257];
+    let cases: [(&[u8], usize, u64, &[u8], u8); 9] = [
+        (&bad, 27, 1, &long, 23),
+        (&bad, usize::MAX, 0, b"", 23),
+        (&bad, 26, 1, &long, 21),
+        (&good, 25, 1, b"", 23),
+        (&good, 25, 650, b"", 23),
+        (&good, 25, 65_536, b"", 23),
+        (&good, 25, 65_536 + 646, b"", 23),
+        (&good, 25, 0, &long, 23),
+        (&good, 25, 0, b"", 20),
+    ];
+    for (before, used, code, name, refusal) in cases {
+        let mut buffer = before.to_vec();
+        assert_eq!(append(&mut buffer, used, code, &HASH, name), Err(refusal));
+        assert_eq!(buffer, before);
+    }
+}
+
+/// A table grows to 65,536 octets and no further, however long the buffer is.
+#[test]
+fn appended_up_to_the_most() {
+    for (used, name, answer) in [
+        (65_514, "", Ok(65_536)),
+        (65_515, "", Err(20)),
+        (65_513, "n", Ok(65_536)),
+        (65_514, "n", Err(20)),
+    ] {
+        let mut buffer = record(2, &vec![0; used - 4]);
+        buffer.resize(70_000, 9);
+        let before = buffer.clone();
+        let name = name.as_bytes();
+        assert_eq!(append(&mut buffer, used, 0, &HASH, name), answer);
+        let end = answer.unwrap_or(used);
+        assert_eq!(buffer[..used], before[..used]);
+        assert_eq!(buffer[end..], before[end..]);
+    }
 }
