@@ -5,3 +5,5 @@ pub mod Tables
 pub mod Lookups
 pub mod Joined
 pub mod Answers
+pub mod Laying
+pub mod Appending

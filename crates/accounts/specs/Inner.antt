@@ -1,7 +1,8 @@
 -- What this crate's private functions promise each other.
 use Prim.Native.Nat.{ℕ}
+use mathlib.Core.Path.{_≡_}
 use mathlib.Core.List.{List, []}
-use lib.ListN.{take, replicate}
+use lib.ListN.{length, take, replicate}
 use lib.Dec.{ltb}
 use Rattle.octets.specs.Choice.{pick}
 use Rattle.octets.specs.Lists.{cells, put}
@@ -18,3 +19,8 @@ sought user = put (replicate 264 0) 8 (take 256 user)
 -- no bit for the eight octets before a name, and every bit for those of the name
 unfoldable pub nameMask : List ℕ
 nameMask = cells 16 (λ k. pick (ltb k 8) 0 255)
+
+-- the first n octets of a list are q
+pub record StartsWith (q octets : List ℕ) (n : ℕ) : Type 0 where
+  pub count : n ≡ length q
+  pub front : take n octets ≡ q

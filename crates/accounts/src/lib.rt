@@ -18,12 +18,23 @@ use octets::Order;
 use octets::number_at;
 use octets::octet;
 
+mod adding;
+
+pub use adding::append;
+pub use adding::append_account;
+
 // What `find` answers: 21, 23, or 0 with no account of the user, or its code and where in the table its hash of 16 octets begins.
 pub enum Found {
     Malformed,
     BadUser,
     Absent,
     Account { code: u16, hash: usize },
+}
+
+// What `append` answers, and the table's new length, or 0.
+pub struct Added {
+    pub answer: Answer,
+    pub n: usize,
 }
 
 // An account, which the walk carries from record to record as plain values; its hash begins at 0 where none is known.
@@ -61,7 +72,7 @@ fn code_of(item: &[u8]) -> u16
 }
 
 // Whether an account may have this code.
-pub fn is_code(code: u16) -> bool
+pub fn is_code(code: u64) -> bool
     ensures { λ r. ⌜ r ≡ isCode code ⌝ }
 {
     match code {
@@ -83,7 +94,7 @@ fn account_good(item: &[u8]) -> bool
     if 278 < item.len() {
         return false;
     }
-    is_code(code_of(item))
+    is_code(code_of(item) as u64)
 }
 
 // Whether a record keeps to the form of its kind.

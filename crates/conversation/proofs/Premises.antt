@@ -1,75 +1,41 @@
 -- The premises can be met: for every name and hash that fit there is a table with their account, and one by which no Response is right.
-use Prim.Native.Nat.{ℕ, zero, suc, _+_, _≤_}
-use mathlib.Core.Path.{_≡_, refl, sym, ap, _∙_}
+use Prim.Native.Nat.{ℕ, zero, suc, _≤_}
+use mathlib.Core.Path.{_≡_, refl, ap, _∙_}
 use mathlib.Core.Bool.{true}
-use mathlib.Core.List.{List, [], _∷_, append-nil, flatten}
+use mathlib.Core.List.{List}
 use native.Mathlib.Omega.{arith}
-use lib.ListN.{length, getD, replicate, length-append}
-use lib.Seq.{take-at, drop-at}
-use Rattle.octets.specs.Octets.{AreOctets, numberAt}
+use lib.ListN.{length, getD, replicate}
+use Rattle.octets.specs.Octets.{AreOctets}
 use Rattle.octets.proofs.Exits.{clash}
+use Rattle.octets.proofs.Scans.{same-refl}
 use Rattle.answer.specs.Sizes.{maxName}
-use Rattle.accounts.specs.Accounts.{codeOf, hashOf, isCode, wellFormed, isAccountOf, Placed, placed, accountOf}
-use Rattle.accounts.specs.Table.{none, more, IsGood, IsTable, Names}
-use Rattle.accounts.proofs.Tables.{so-table}
-use Rattle.accounts.proofs.Lookups.{so-named, names-first}
+use Rattle.accounts.specs.Accounts.{codeOf, hashOf, isCode, wellFormed, isAccountOf, Placed}
+use Rattle.accounts.specs.Account.{accountRecord}
 use Rattle.accounts.proofs.Joined.{empty-formed, empty-none}
+use Rattle.accounts.proofs.Appending.{account-formed, is-account, account-own, code-is, hash-is}
 use Rattle.mschap.specs.Users.{userOf}
 use Rattle.mschap.proofs.Users.{user-shorter}
 use Rattle.conversation.specs.Calls.{Credentials}
 use Rattle.conversation.specs.Login.{HasAccount}
 use Rattle.conversation.specs.Tries.{barred}
-use Rattle.conversation.specs.Premises.{accountFor, tableFor, NameFits, PremisesMet}
+use Rattle.conversation.specs.Premises.{tableFor, NameFits, PremisesMet}
 
 -- ---- a table of one account
-module _ (user : List ℕ) (code : ℕ) (hash : List ℕ) (few : length user ≤ maxName) (known : isCode code ≡ true) (sixteen : length hash ≡ 16) where
-  abbrev t : List ℕ
-  t = accountFor user code hash
-
-  size : length t ≡ 22 + length user
-  size = omega (arith, length-append hash user)
-
-  code-in : codeOf t ≡ code
-  unfolding numberAt
-  code-in = omega arith
-
-  is-good : IsGood t
-  unfolding numberAt
-  is-good = record {
-    form = record { least = omega (arith, size); counted = omega (arith, size) };
-    account = λ k. record { least = omega (arith, size); most = omega (arith, size); code = ap isCode code-in ∙ known };
-  }
-
-  is-table : IsTable t (t ∷ [])
-  unfolding flatten
-  is-table = record { size = omega (arith, size); joined = sym (append-nil t); good = more is-good none }
-
-  named : Names user t
-  unfolding numberAt
-  named = record { kind = refl; name = drop-at hash user 16 sixteen }
-
-  formed : wellFormed t ≡ true
-  formed = so-table t (t ∷ []) is-table .0
-
-  found : accountOf t user ≡ placed 0 t
-  unfolding accountOf flatten
-  found =
-      rw (so-table t (t ∷ []) is-table .1)
-      (names-first user 0 (t ∷ []) (placed 0 t) (record { before = []; after = []; split = refl; none = none; here = named; place = refl }))
-
-  has-account : HasAccount t user code hash
-  has-account = record {
-    account = ap (λ (e : Placed). isAccountOf user (e .octets)) found ∙ so-named user t named;
-    coded = ap (λ (e : Placed). codeOf (e .octets)) found ∙ code-in;
-    hashed = ap (λ (e : Placed). hashOf (e .octets)) found ∙ take-at hash user 16 sixteen;
-  }
+has-account : (user : List ℕ) (code : ℕ) (hash : List ℕ) → length user ≤ maxName → isCode code ≡ true → length hash ≡ 16 → HasAccount (accountRecord code hash user) user code hash
+has-account user code hash few known sixteen =
+    let found = account-own code hash user sixteen few known in
+    record {
+      account = ap (λ (e : Placed). isAccountOf user (e .octets)) found ∙ is-account code hash user sixteen few known user ∙ same-refl user;
+      coded = ap (λ (e : Placed). codeOf (e .octets)) found ∙ code-is code hash user sixteen few known;
+      hashed = ap (λ (e : Placed). hashOf (e .octets)) found ∙ hash-is code hash user sixteen few known;
+    }
 
 module _ (c : Credentials) (code : ℕ) (f : NameFits c) (known : isCode code ≡ true) where
   short : length (userOf (c .name)) ≤ maxName
   short = omega (arith, user-shorter (c .name), f .name)
 
   table-formed : wellFormed (tableFor c code) ≡ true
-  table-formed = formed (userOf (c .name)) code (c .hash) short known (f .hash)
+  table-formed = account-formed code (c .hash) (userOf (c .name)) (f .hash) short known
 
   table-account : HasAccount (tableFor c code) (userOf (c .name)) code (c .hash)
   table-account = has-account (userOf (c .name)) code (c .hash) short known (f .hash)

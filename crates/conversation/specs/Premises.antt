@@ -1,24 +1,21 @@
 -- The premises of Login and of Tries can be met, for every name and hash that fit.
-use Prim.Native.Nat.{ℕ, _+_, _/_, _%_, _≤_}
+use Prim.Native.Nat.{ℕ, _+_, _≤_}
 use mathlib.Core.Path.{_≡_}
 use mathlib.Core.Bool.{true}
-use mathlib.Core.List.{List, [], _∷_, _++_}
+use mathlib.Core.List.{List, [], _∷_}
 use lib.ListN.{length, replicate}
 use Rattle.answer.specs.Sizes.{maxName}
 use Rattle.packet.specs.Forms.{responseNameAt, successTextAt}
 use Rattle.accounts.specs.Accounts.{isCode, wellFormed}
+use Rattle.accounts.specs.Account.{accountRecord}
 use Rattle.mschap.specs.Users.{userOf}
 use Rattle.conversation.specs.Calls.{Credentials, Login, Try}
 use Rattle.conversation.specs.Login.{Fits, RightAccount}
 use Rattle.conversation.specs.Tries.{Denial, Wrong, last, Rejected}
 
--- a table of one account
-abbrev pub accountFor : List ℕ → ℕ → List ℕ → List ℕ
-accountFor user code hash = (22 + length user) % 256 ∷ (22 + length user) / 256 ∷ 1 ∷ 0 ∷ code % 256 ∷ code / 256 ∷ (hash ++ user)
-
--- the account of these credentials
+-- a table of one account, that of these credentials
 abbrev pub tableFor : Credentials → ℕ → List ℕ
-tableFor c code = accountFor (userOf (c .name)) code (c .hash)
+tableFor c code = accountRecord code (c .hash) (userOf (c .name))
 
 pub record NameFits (c : Credentials) : Type 0 where
   pub name : length (c .name) ≤ maxName

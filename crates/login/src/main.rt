@@ -57,7 +57,7 @@ fn example() {
     let made = password::hash(b"clientPass");
     let hash = made.hash;
     let mut table = [0u8; 278];
-    let n = roster::append_account(&mut table, 0, 0, hash, b"User");
+    let n = accounts::append_account(&mut table, 0, 0, hash, b"User");
     talk::play(
         octets::part(&table, 0, n),
         b"User",

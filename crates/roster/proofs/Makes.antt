@@ -15,7 +15,7 @@ use Rattle.octets.specs.Choice.{pick}
 use Rattle.octets.specs.Lists.{over, put, nextAt, Appended}
 use Rattle.octets.proofs.Exits.{pick-true, pick-false, gave-not, below, tested, arms}
 use Rattle.octets.proofs.Lists.{put-fits}
-use Rattle.roster.specs.Account.{recordFor}
+use Rattle.accounts.specs.Account.{recordFor}
 use Rattle.roster.specs.Lines.{upto, before, after, trimmed, entryOf}
 use Rattle.roster.specs.Made.{linesOf, isAccount, isFault, AfterLine, afterLine, addedTo, addedBy, recordIn, addedLine, Result, result, madeFrom, madeOf, Makes, MadeBy}
 use Rattle.roster.specs.declared.Line.{Line}

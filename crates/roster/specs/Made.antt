@@ -7,7 +7,7 @@ use lib.ListN.{length, take}
 use lib.Dec.{ltb, eqb}
 use Rattle.octets.specs.Choice.{pick}
 use Rattle.octets.specs.Lists.{over}
-use Rattle.roster.specs.Account.{recordFor}
+use Rattle.accounts.specs.Account.{recordFor}
 use Rattle.roster.specs.Lines.{trimmed, entryOf}
 use Rattle.roster.specs.declared.Line.{Line}
 use Rattle.roster.specs.declared.Line.the-variants.{Blank, Account, NoPassword, NoName, LongName, BadCode, BadHash, NotUtf8, LongPassword, Full}

@@ -1,11 +1,9 @@
 // Account tables made of lines of text: document 01, "Account table".
 ghost use mathlib.Core.Path.{_≡_};
-ghost use Prim.Native.Nat.{_+_, _≤_};
+ghost use Prim.Native.Nat.{_≤_};
 ghost use lib.ListN.{length, take, drop};
-ghost use Rattle.octets.specs.Lists.{cells, over, Appended};
+ghost use Rattle.octets.specs.Lists.{cells};
 ghost use Rattle.octets.specs.Octets.{unhexAt};
-ghost use Rattle.roster.specs.Account.{accountHead, accountRecord, recordFor};
-ghost use Rattle.roster.specs.Inner.{StartsWith};
 ghost use Rattle.roster.specs.Lines.{upto, before, after, has, trimmed, hexSecret, spelt, secretOf, codeIn, codeAfter, noEntry, entryWith, entryOf};
 ghost use Rattle.roster.specs.Made.{isAccount, isFault, addedLine, Makes, MadeBy};
 use password::Spelling;
@@ -38,12 +36,6 @@ pub struct Entry {
     pub namelen: usize,
 }
 
-// A record, at the front of an array.
-struct Record {
-    octets: [u8; 278],
-    len: usize,
-}
-
 // What was made of a line: how long the table is after it.
 struct AfterLine {
     line: Line,
@@ -56,74 +48,6 @@ pub struct Made {
     pub ended: Line,
     pub lines: usize,
     pub len: usize,
-}
-
-// ---- records
-
-fn head_of(l: u16, code: u16) -> [u8; 6]
-    ensures { λ r. ⌜ r ≡ accountHead l code ⌝ }
-{
-    [
-        (l % 256) as u8,
-        (l / 256) as u8,
-        1,
-        0,
-        (code % 256) as u8,
-        (code / 256) as u8,
-    ]
-}
-
-// The record over the front of dst.
-fn lay(dst: &mut [u8], code: u16, hash: [u8; 16], name: &[u8])
-    requires { ⌜ (length (now dst) ≡ 278) × (length (now name) ≤ 256) ⌝ }
-    ensures { λ r. ⌜ now (dst .exit) ≡ over (accountRecord code hash (now (name .entry))) (now (dst .entry)) ⌝ }
-{
-    let l = 22 + name.len();
-    let head = head_of(l as u16, code);
-    octets::put_at(dst, 0, &head);
-    octets::put_at(dst, 6, &hash);
-    octets::put_at(dst, 22, name);
-}
-
-fn record_of(code: u16, hash: [u8; 16], name: &[u8]) -> Record
-    requires { ⌜ length (now name) ≤ 256 ⌝ }
-    ensures { λ r. ⌜ StartsWith (accountRecord code hash (now (name .entry))) (r .octets) (r .len) ⌝ }
-{
-    let mut octets = [0u8; 278];
-    lay(&mut octets, code, hash, name);
-    Record {
-        octets,
-        len: 22 + name.len(),
-    }
-}
-
-fn record_for(code: u16, hash: [u8; 16], name: &[u8]) -> Record
-    ensures { λ r. ⌜ StartsWith (recordFor code hash (now (name .entry))) (r .octets) (r .len) ⌝ }
-{
-    if !accounts::is_code(code) {
-        return Record {
-            octets: [0u8; 278],
-            len: 0,
-        };
-    }
-    if 256 < name.len() {
-        return Record {
-            octets: [0u8; 278],
-            len: 0,
-        };
-    }
-    record_of(code, hash, name)
-}
-
-// Appends the record of an account, and gives the place after it. Where it does not fit, or the code or the name has no
-// record, the table stays as it is and the place comes back.
-pub fn append_account(table: &mut [u8], at: usize, code: u16, hash: [u8; 16], name: &[u8]) -> usize
-    ensures { λ r. ⌜ Appended (now (table .entry)) at (recordFor code hash (now (name .entry))) r (now (table .exit)) ⌝ }
-{
-    let made = record_for(code, hash, name);
-    let octets = made.octets;
-    let len = made.len;
-    octets::append(table, at, octets::part(&octets, 0, len))
 }
 
 // ---- fields
@@ -288,7 +212,7 @@ fn entry_with(s: &[u8], n: usize) -> Entry
 {
     let rest = field_after(s, 9);
     let code = code_after(rest);
-    if !accounts::is_code(code) {
+    if !accounts::is_code(code as u64) {
         return no_entry(Line::BadCode);
     }
     let made = secret_of(field_before(rest, 9));
@@ -373,7 +297,8 @@ fn take_line(table: &mut [u8], n: usize, s: &[u8]) -> AfterLine
         return AfterLine { line, len: n };
     }
     let hash = e.hash;
-    let next = append_account(table, n, e.code, hash, octets::part(s, 0, e.namelen));
+    let name = octets::part(s, 0, e.namelen);
+    let next = accounts::append_account(table, n, e.code as u64, hash, name);
     if next == n {
         return AfterLine {
             line: Line::Full,

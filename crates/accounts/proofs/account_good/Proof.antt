@@ -1,5 +1,6 @@
 use Rattle.accounts.specs.Accounts.{accountGood}
 use Rattle.octets.proofs.Exits.{exits}
+use borrow.Author.Needs.{needs}
 use Rattle.accounts.proofs.account_good.Statement.{statement}
 use Rattle.accounts.proofs.account_good.Tie as tie
 
@@ -10,6 +11,7 @@ account-good-spec =
     (tie.spec
     (λ c. search exits)
     (λ c. search exits)
-    (λ c κs. search exits)
-    (λ c κs. search exits)
+    (λ c κs. search needs)
+    (λ c. search needs)
+    (λ c κs. search needs)
     (λ c. search (exits, ← c .before .code-of .ensures)))

@@ -11,6 +11,7 @@ take-line-spec =
     (λ c κs. search needs)
     (λ c. search takes)
     (λ c κs. search needs)
+    (λ c. search needs)
     (λ c κs. search needs)
     (λ c. search needs)
     (λ c. search takes)

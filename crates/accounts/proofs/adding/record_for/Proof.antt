@@ -1,13 +1,14 @@
-use Rattle.roster.proofs.Laws.{holding}
+use Rattle.accounts.proofs.Laying.{holding}
 use borrow.Author.Needs.{needs}
-use Rattle.roster.proofs.record_for.Statement.{statement}
-use Rattle.roster.proofs.record_for.Tie as tie
+use Rattle.accounts.proofs.adding.record_for.Statement.{statement}
+use Rattle.accounts.proofs.adding.record_for.Tie as tie
 
 pub record-for-spec : {M : Type 1} → statement M
 record-for-spec =
     tie.close
     (tie.spec
     (λ c κs. search needs)
+    (λ c. search holding)
     (λ c. search holding)
     (λ c. search holding)
     (λ c κs. search needs)

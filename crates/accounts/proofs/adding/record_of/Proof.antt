@@ -1,7 +1,7 @@
-use Rattle.roster.proofs.Laws.{holding}
+use Rattle.accounts.proofs.Laying.{holding}
 use borrow.Author.Needs.{needs}
-use Rattle.roster.proofs.record_of.Statement.{statement}
-use Rattle.roster.proofs.record_of.Tie as tie
+use Rattle.accounts.proofs.adding.record_of.Statement.{statement}
+use Rattle.accounts.proofs.adding.record_of.Tie as tie
 
 pub record-of-spec : {M : Type 1} → statement M
 record-of-spec =

@@ -1,7 +1,7 @@
 use borrow.Author.Needs.{needs}
-use Rattle.roster.proofs.Laws.{laid}
-use Rattle.roster.proofs.lay.Statement.{statement}
-use Rattle.roster.proofs.lay.Tie as tie
+use Rattle.accounts.proofs.Laying.{laid}
+use Rattle.accounts.proofs.adding.lay.Statement.{statement}
+use Rattle.accounts.proofs.adding.lay.Tie as tie
 
 pub lay-spec : {M : Type 1} → statement M
 lay-spec =

@@ -1,7 +1,7 @@
 use Rattle.octets.proofs.Appends.{appended-by}
 use borrow.Author.Needs.{needs}
-use Rattle.roster.proofs.append_account.Statement.{statement}
-use Rattle.roster.proofs.append_account.Tie as tie
+use Rattle.accounts.proofs.adding.append_account.Statement.{statement}
+use Rattle.accounts.proofs.adding.append_account.Tie as tie
 
 pub append-account-spec : {M : Type 1} → statement M
 append-account-spec =
