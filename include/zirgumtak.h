@@ -39,6 +39,14 @@ extern "C" {
 #endif
 
 /*
+ * Version: major * 10000 + minor * 100 + patch. zt_version gives that of the archive that is
+ * linked, and nothing else: it is no answer's word.
+ */
+#define ZT_VERSION 200
+#define ZT_VERSION_TEXT "0.2.0"
+uint64_t zt_version(void);
+
+/*
  * Answers
  *
  * Each function answers one word: a number in bits 0 to 7, n in bits 8 to 31, and zeros above.
@@ -215,9 +223,9 @@ uint64_t zt_server_packet(uint8_t *state, size_t state_len,
                           const uint8_t *fresh, size_t fresh_len,
                           uint8_t *reply, size_t reply_len);
 
-/* Writes the outstanding request again, for a peer that does not answer: ZT_WRITTEN. The state
- * stays as it is. Refusals: 19, 20. */
-uint64_t zt_server_resend(uint8_t *state, size_t state_len,
+/* Writes the outstanding request again, for a peer that does not answer: ZT_WRITTEN. The state is
+ * only read. Refusals: 19, 20. */
+uint64_t zt_server_resend(const uint8_t *state, size_t state_len,
                           uint8_t *reply, size_t reply_len);
 
 /*
@@ -235,6 +243,18 @@ uint64_t zt_read(uint8_t end, const uint8_t *packet, size_t packet_len);
  * or 646, 647, 648 or 649, which a peer with the right password is told), the password hash (16),
  * the user's name (0 to 256). Other kinds are skipped. The first account of a name counts. */
 uint64_t zt_accounts_check(const uint8_t *table, size_t table_len);
+
+/* Appends an account to a table. The table is the first `used` octets of the buffer, 0 for a new
+ * one: ZT_WRITTEN, and n is the table's new length, the octets after it being left as they were. An
+ * account whose name an earlier one has is appended all the same, and does not count.
+ *   refusals, in this order: 23 (used over table_len), 21 (those octets are no table), 23 (a code
+ *   that is not one of the five, a name over ZT_MAX_NAME), 20 (the longer table has no room in the
+ *   buffer, or is over ZT_MAX_TABLE) */
+uint64_t zt_accounts_append(uint8_t *table, size_t table_len,
+                            size_t used,
+                            uint64_t code,
+                            const uint8_t *hash, size_t hash_len,
+                            const uint8_t *name, size_t name_len);
 
 /* Digests of up to ZT_MAX_INPUT octets; 23 for more. */
 uint64_t zt_md4(const uint8_t *data, size_t data_len, uint8_t *digest, size_t digest_len);

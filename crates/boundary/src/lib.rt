@@ -4,7 +4,7 @@ ghost use mathlib.Core.List.{[]};
 ghost use Rattle.accounts.specs.Accounts.{checkNumber};
 ghost use Rattle.calls.specs.Done.{wordOf, done, made};
 ghost use Rattle.calls.specs.Ends.{peerNewAt, peerStepAt, peerSupplyAt, peerGiveUpAt, serverNewAt, serverStartAt, serverPacketAt, serverResendAt};
-ghost use Rattle.calls.specs.Stateless.{readAt, md4At, sha1At, passwordHashAt, desAt, ntResponseAt, authenticatorAt};
+ghost use Rattle.calls.specs.Stateless.{version, readAt, accountsAppendAt, md4At, sha1At, passwordHashAt, desAt, ntResponseAt, authenticatorAt};
 
 #[no_mangle]
 pub extern "C" fn zt_peer_new(state: &mut [u8], name: &[u8], hash: &[u8]) -> u64
@@ -80,10 +80,17 @@ pub extern "C" fn zt_server_packet(
 }
 
 #[no_mangle]
-pub extern "C" fn zt_server_resend(state: &mut [u8], reply: &mut [u8]) -> u64
-    ensures { λ r. ⌜ done r (now (state .exit)) (now (reply .exit)) ≡ serverResendAt (now (state .entry)) (now (reply .entry)) ⌝ }
+pub extern "C" fn zt_server_resend(state: &[u8], reply: &mut [u8]) -> u64
+    ensures { λ r. ⌜ done r (now (state .entry)) (now (reply .exit)) ≡ serverResendAt (now (state .entry)) (now (reply .entry)) ⌝ }
 {
     calls::server_resend(state, reply)
+}
+
+#[no_mangle]
+pub extern "C" fn zt_version() -> u64
+    ensures { λ r. ⌜ r ≡ version ⌝ }
+{
+    calls::version()
 }
 
 #[no_mangle]
@@ -98,6 +105,19 @@ pub extern "C" fn zt_accounts_check(table: &[u8]) -> u64
     ensures { λ r. ⌜ r ≡ wordOf (checkNumber (now (table .entry))) 0 ⌝ }
 {
     calls::accounts_check(table)
+}
+
+#[no_mangle]
+pub extern "C" fn zt_accounts_append(
+    table: &mut [u8],
+    used: usize,
+    code: u64,
+    hash: &[u8],
+    name: &[u8],
+) -> u64
+    ensures { λ r. ⌜ made r (now (table .exit)) ≡ accountsAppendAt (now (table .entry)) used code (now (hash .entry)) (now (name .entry)) ⌝ }
+{
+    calls::accounts_append(table, used, code, hash, name)
 }
 
 #[no_mangle]

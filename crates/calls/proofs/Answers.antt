@@ -1,15 +1,15 @@
 -- Every call answers a number of the list, and a refusal changes nothing.
-use Prim.Native.Nat.{ℕ}
+use Prim.Native.Nat.{ℕ, _≤_}
 use native.Mathlib.Omega.{arith}
 use mathlib.Core.Path.{_≡_, refl, sym, ap, _∙_}
 use mathlib.Core.List.{List, []}
-use mathlib.Core.Bool.{true, false, _&&_}
+use mathlib.Core.Bool.{Bool, true, false, _&&_}
 use mathlib.Core.Logic.{_⊎_, inl, inr, ⊎-elim}
 use lib.ListN.{length}
 use lib.Dec.{ltb}
 use borrow.Author.Tests.{eqb-true, ltb-true, le-ltb}
 use Rattle.octets.specs.Choice.{pick}
-use Rattle.octets.proofs.Exits.{picked, tested, both, pick-true, pick-false}
+use Rattle.octets.proofs.Exits.{arms, picked, tested, both, pick-true, pick-false}
 use Rattle.answer.specs.Outcome.{outcome}
 use Rattle.answer.specs.Promises.{IsRefusal}
 use Rattle.answer.specs.Sizes.{maxName}
@@ -38,7 +38,7 @@ use Rattle.calls.specs.Run.{makes, steps, supplies, givesUp, renews, cal
 use Rattle.calls.specs.Promises as promises
 use Rattle.calls.specs.Promises.{WordBack, AnswersAt, MakesFailed, PeerAnswersAt, ServerAnswersAt}
 use Rattle.calls.proofs.Laws.{number-back, n-back, word-small}
-use Rattle.calls.proofs.ServerRuns.{proper, is-initial, toldIn, told-at}
+use Rattle.calls.proofs.ServerRuns.{proper, is-initial, changes, toldIn, told-at}
 
 pub word-back : WordBack
 word-back = record { number = number-back; n = n-back; small = word-small }
@@ -111,21 +111,28 @@ can-refuse-listed (starts id challenge name retries reply) k r =
 can-refuse-listed (brings packet table fresh reply) k r = (r .0, omega (arith, r .1))
 can-refuse-listed (resends reply) k r = ⊎-elim (λ e. (omega arith, omega arith)) (λ e. (omega arith, omega arith)) r
 
-server-leaves-at : {p s′ : Server} {c : server.Call (List ℕ)} {b′ : List ℕ} {k n : ℕ} (s : List ℕ) → server-promises.Leaves p c k n s′ b′ → length (octetsOfServer s′) ≡ length s
-    → AnswersAt s (replyOf c) (done (wordOf k n) (pick (ltb k 10) (octetsOfServer s′) s) b′)
-unfolding pick
-server-leaves-at s (server-promises.written q s′ f g) l = promises.answers 0 q (octetsOfServer s′) (omega arith) f l
-server-leaves-at s (server-promises.authenticated id s′ f g) l = promises.answers 2 (eapSuccess id) (octetsOfServer s′) (omega arith) f l
-server-leaves-at s (server-promises.ended id s′ f g) l = promises.answers 3 (eapFailure id) (octetsOfServer s′) (omega arith) f l
-server-leaves-at {p} {c = c} s (server-promises.refusal k r) l =
-    let i = can-refuse-listed c k r in
-    rw (pick-false (ltb k 10) (octetsOfServer p) s (le-ltb k 10 (i .0))) (promises.refuses k i)
+-- the octets of the state after it, where the call writes them or not
+left-long : (w : Bool) (s′ : Server) (s : List ℕ) → length (octetsOfServer s′) ≡ length s → length (pick w (octetsOfServer s′) s) ≡ length s
+left-long w s′ s l = arms (λ (x : List ℕ). length x ≡ length s) w l refl
 
-server-call-at : (c : server.Call (List ℕ)) (s : List ℕ) → (isServer s && areSixteen c) ≡ true → AnswersAt s (replyOf c) (toldIn s (serverStep (serverOf s) c))
+refused-still : (w : Bool) (k : ℕ) → 10 ≤ k → (w && ltb k 10) ≡ false
+refused-still true k h = le-ltb k 10 h
+refused-still false k h = refl
+
+server-leaves-at : {p s′ : Server} {c : server.Call (List ℕ)} {b′ : List ℕ} {k n : ℕ} (w : Bool) (s : List ℕ) → server-promises.Leaves p c k n s′ b′ → length (octetsOfServer s′) ≡ length s
+    → AnswersAt s (replyOf c) (done (wordOf k n) (pick (w && ltb k 10) (octetsOfServer s′) s) b′)
+server-leaves-at w s (server-promises.written q s′ f g) l = promises.answers 0 q _ (omega arith) f (left-long (w && ltb 0 10) s′ s l)
+server-leaves-at w s (server-promises.authenticated id s′ f g) l = promises.answers 2 (eapSuccess id) _ (omega arith) f (left-long (w && ltb 2 10) s′ s l)
+server-leaves-at w s (server-promises.ended id s′ f g) l = promises.answers 3 (eapFailure id) _ (omega arith) f (left-long (w && ltb 3 10) s′ s l)
+server-leaves-at {p} {c = c} w s (server-promises.refusal k r) l =
+    let i = can-refuse-listed c k r in
+    rw (pick-false (w && ltb k 10) (octetsOfServer p) s (refused-still w k (i .0))) (promises.refuses k i)
+
+server-call-at : (c : server.Call (List ℕ)) (s : List ℕ) → (isServer s && areSixteen c) ≡ true → AnswersAt s (replyOf c) (toldIn (changes c) s (serverStep (serverOf s) c))
 unfolding serverStep
 server-call-at c s e =
     let f = both (isServer s) (areSixteen c) e in
-    server-leaves-at s (server-answers (serverOf s) c _ _ _ _ (record { answered = refl; count = refl; left = refl; written = refl }))
+    server-leaves-at (changes c) s (server-answers (serverOf s) c _ _ _ _ (record { answered = refl; count = refl; left = refl; written = refl }))
     (length-octets-of-server _ (proper (serverOf s) c (f .1) (is-server s) .is) ∙ sym (eqb-true _ _ (f .0)))
 
 server-new-at : (s : List ℕ) → AnswersAt s [] (serverNewAt s)

@@ -22,6 +22,7 @@ use Rattle.packet.specs.declared.Reading.{Reading}
 use Rattle.packet.specs.declared.Reading.the-variants.{Refused, Read}
 use Rattle.packet.specs.Frame.{toldFrame}
 use Rattle.packet.specs.Reader.{toldReading}
+use Rattle.accounts.specs.Account.{appendIn}
 use Rattle.des.specs.Des.{enciphered}
 use Rattle.mschap.specs.Answers.{passwordHashTold, ntResponseTold, authenticatorTold}
 use Rattle.peer.specs.declared.Peer.{Peer}
@@ -33,7 +34,7 @@ use Rattle.state.specs.Stored.{stored}
 use Rattle.state.specs.PeerOctets.{peerOctets, peerOf, octetsOfPeer}
 use Rattle.state.specs.ServerOctets.{serverOctets, serverOf, octetsOfServer}
 use Rattle.state.proofs.Puts.{stored-so}
-use Rattle.calls.specs.Done.{wordOf, done, ended, made, given, givenBy}
+use Rattle.calls.specs.Done.{wordOf, done, ended, kept, made, given, givenBy, wrote}
 use Rattle.calls.specs.Inner.{Encoded}
 use Rattle.calls.specs.Ends.{begun, serverNewAt}
 use Rattle.calls.specs.Stateless.{unitAt, unitsOf, withoutEnd}
@@ -88,8 +89,9 @@ start-ended p state after id octets challenge name retries reply reply′ k n s 
 pub packet-ended : (p : Server) (state after packet table octets challenge reply reply′ : List ℕ) (k n : ℕ) (s : Server) (w : ℕ) → Does (packetOf p packet table octets (length reply)) k n s reply reply′ → Encoded k n (octetsOfServer s) state w after → p ≡ serverOf state → octets ≡ challenge → done w after reply′ ≡ ended octetsOfServer (packetOf (serverOf state) packet table challenge (length reply)) state reply
 packet-ended p state after packet table octets challenge reply reply′ k n s w d z e f = ended-by octetsOfServer _ k n s state after reply reply′ w (rw (← e, ← f) d) z
 
-pub resend-ended : (p : Server) (state after reply reply′ : List ℕ) (k n : ℕ) (s : Server) (w : ℕ) → Does (resendOf p (length reply)) k n s reply reply′ → Encoded k n (octetsOfServer s) state w after → p ≡ serverOf state → done w after reply′ ≡ ended octetsOfServer (resendOf (serverOf state) (length reply)) state reply
-resend-ended p state after reply reply′ k n s w d z e = ended-by octetsOfServer _ k n s state after reply reply′ w (rw (← e) d) z
+pub resend-kept : (p : Server) (state reply reply′ : List ℕ) (k j n : ℕ) (s : Server) (w : ℕ) → Does (resendOf p (length reply)) k n s reply reply′ → p ≡ serverOf state → j ≡ k → w ≡ wordOf j n → done w state reply′ ≡ kept (resendOf (serverOf state) (length reply)) state reply
+unfolding kept
+resend-kept p state reply reply′ k j n s w d e f g = rw (g, f, ← e, d .answered, d .count, d .written)
 
 pub new-server : (state after : List ℕ) (s : Server) → s ≡ initial → after ≡ stored serverOctets (octetsOfServer s) state → length state ≡ serverOctets → done 0 after [] ≡ serverNewAt state
 unfolding serverNewAt
@@ -129,6 +131,10 @@ respond-given a authenticator p peer user h hash q out after k w t e f g m = tol
 
 pub sign-given : (h hash r response p peer a authenticator user q out after : List ℕ) (k w : ℕ) → record { number = k; n = 0; value = q } ≡ authenticatorTold h r p a user → h ≡ hash → r ≡ response → p ≡ peer → a ≡ authenticator → made w after ≡ given k q out → made w after ≡ givenBy (authenticatorTold hash response peer authenticator user) out
 sign-given h hash r response p peer a authenticator user q out after k w t e f g i m = told-given (authenticatorTold hash response peer authenticator user) k q out after w (rw (e, f, g, i) at t) m
+
+pub append-wrote : (buffer after own hash name : List ℕ) (used code k j n w : ℕ) → Does (appendIn buffer used code own name) k n tt buffer after → own ≡ hash → j ≡ k → w ≡ wordOf j n → made w after ≡ wrote (appendIn buffer used code hash name) buffer
+unfolding wrote
+append-wrote buffer after own hash name used code k j n w d e f g = rw (g, f, ← e, d .answered, d .count, d .written)
 
 -- the units that an array of 256 has at its front
 units-front : (s units : List ℕ) (n : ℕ) → units ≡ cells 256 (unitAt s) → n ≡ length s / 2 → length s ≤ 512 → take n units ≡ unitsOf s

@@ -3,14 +3,14 @@ use Prim.Native.Nat.{ℕ}
 use native.Mathlib.Omega.{arith}
 use mathlib.Core.Path.{_≡_, refl, sym, ap, _∙_}
 use mathlib.Core.List.{List, [], _∷_, map}
-use mathlib.Core.Bool.{Bool, true, _&&_, and-true}
+use mathlib.Core.Bool.{Bool, true, false, _&&_, and-true}
 use lib.ListN.{length}
 use lib.Dec.{ltb}
 use borrow.Author.Tests.{eqb-true, eq-eqb}
 use Rattle.octets.specs.Choice.{pick}
-use Rattle.octets.proofs.Exits.{pick-true, pick-false, tested}
+use Rattle.octets.proofs.Exits.{pick-true, pick-false, arms, tested}
 use Rattle.octets.proofs.Lists.{length-sized}
-use Rattle.answer.specs.Outcome.{Outcome, outcome}
+use Rattle.answer.specs.Outcome.{Outcome, outcome, fitting}
 use Rattle.answer.specs.declared.Identifier.{Identifier}
 use Rattle.server.specs.declared.Stage.{Stage}
 use Rattle.server.specs.declared.Server.{Server}
@@ -18,12 +18,13 @@ use Rattle.server.specs.State.{requestRoom, initial, asked, staged, IsServer}
 use Rattle.answer.specs.Runs.{run}
 use Rattle.server.specs.Runs.{Call, starts, brings, resends, replyOf, outcomeOf, Answered, serverStep}
 use Rattle.server.specs.Guess.{Side, one, two, lentTo, NotRight}
+use Rattle.server.specs.Calls.{resendOf}
 use Rattle.server.specs.Effects.{Moves, starting, granting, denying, confirming, ending, resending}
 use Rattle.server.proofs.Effects.{by-moves}
 use Rattle.server.proofs.WrongGuess.{wrong-guess}
 use Rattle.state.specs.ServerOctets.{serverOctets, serverOf, octetsOfServer}
 use Rattle.state.proofs.Trips.{server-back, is-server, length-octets-of-server}
-use Rattle.calls.specs.Done.{wordOf, Done, done, unsized, ended}
+use Rattle.calls.specs.Done.{wordOf, Done, done, unsized, ended, kept}
 use Rattle.calls.specs.Ends.{isServer, isSixteen, serverNewAt, serverStartAt, serverPacketAt, serverResendAt}
 use Rattle.calls.specs.Run.{runAt, ServerCall, renews, calls, serverReply, serverCallAt, areSixteen, serverCall, ServerCarried, lentAt, NotRightAt, NoneRightAt, WrongGuessAt}
 use Rattle.calls.proofs.Carry.{Shows, carry, Proper, ended-shows, sized-shows}
@@ -63,6 +64,15 @@ new-shows s h =
     rw (pick-true (isServer s) _ _ (eq-eqb _ _ h))
     (record { same = (λ i. record { word = 0; reply = []; state = server-back initial is-initial i }); long = length-octets-of-server initial is-initial })
 
+-- a resend leaves the state
+resend-state : (s : Server) (room : ℕ) → resendOf s room .state ≡ s
+unfolding resendOf fitting
+resend-state s room = arms (λ (o : Outcome Server). o .state ≡ s) _ refl (arms (λ (o : Outcome Server). o .state ≡ s) _ refl refl)
+
+kept-shows : (o : Outcome Server) (s reply : List ℕ) → length s ≡ serverOctets → o .state ≡ serverOf s → Shows serverOf serverOctets (kept o s reply) o reply
+unfolding kept
+kept-shows o s reply h e = record { same = rw e; long = h }
+
 server-shows : (c : ServerCall (List ℕ)) (s : List ℕ) → length s ≡ serverOctets → Shows serverOf serverOctets (serverCallAt s c) (serverCall (serverOf s) c) (serverReply c)
 unfolding serverStartAt serverPacketAt serverResendAt
 server-shows renews s h = new-shows s h
@@ -71,22 +81,28 @@ server-shows (calls (starts id challenge name retries reply)) s h =
 server-shows (calls (brings packet table fresh reply)) s h =
     sized-shows serverOf serverOctets (isServer s) (isSixteen fresh) _ s reply _ (eq-eqb _ _ h) h (server-ended (brings packet table fresh reply) s h)
 server-shows (calls (resends reply)) s h =
-    rw (pick-true (isServer s) _ _ (eq-eqb _ _ h), pick-true true _ _ refl) (server-ended (resends reply) s h refl)
+    rw (pick-true (isServer s) _ _ (eq-eqb _ _ h), pick-true true _ _ refl) (kept-shows _ s reply h (resend-state (serverOf s) (length reply)))
 
 pub server-carried : ServerCarried
 server-carried = carry serverOf serverOctets serverCallAt serverCall serverReply server-shows
 
 -- ---- the wrong-guess rule
+-- whether a call writes the state where it is not refused
+abbrev pub changes : {T : Type 0} → Call T → Bool
+changes (starts id challenge name retries reply) = true
+changes (brings packet table fresh reply) = true
+changes (resends reply) = false
+
 -- an answer, told in octets
-abbrev pub toldIn : List ℕ → Answered → Done
-toldIn s a = done (wordOf (a .number) (a .n)) (pick (ltb (a .number) 10) (octetsOfServer (a .state)) s) (a .reply)
+abbrev pub toldIn : Bool → List ℕ → Answered → Done
+toldIn b s a = done (wordOf (a .number) (a .n)) (pick (b && ltb (a .number) 10) (octetsOfServer (a .state)) s) (a .reply)
 
 -- a call at the boundary: the sizes, and then what the server answers
-pub told-at : (c : Call (List ℕ)) (s : List ℕ) → serverCallAt s (calls c) ≡ pick (isServer s && areSixteen c) (toldIn s (serverStep (serverOf s) c)) (unsized s (replyOf c))
-unfolding serverStartAt serverPacketAt serverResendAt ended serverStep
+pub told-at : (c : Call (List ℕ)) (s : List ℕ) → serverCallAt s (calls c) ≡ pick (isServer s && areSixteen c) (toldIn (changes c) s (serverStep (serverOf s) c)) (unsized s (replyOf c))
+unfolding serverStartAt serverPacketAt serverResendAt ended kept serverStep pick
 told-at (starts id challenge name retries reply) s = refl
 told-at (brings packet table fresh reply) s = refl
-told-at (resends reply) s = ap (λ (b : Bool). pick b (toldIn s (serverStep (serverOf s) (resends reply))) (unsized s reply)) (sym (and-true (isServer s)))
+told-at (resends reply) s = ap (λ (b : Bool). pick b (toldIn false s (serverStep (serverOf s) (resends reply))) (unsized s reply)) (sym (and-true (isServer s)))
 
 first : {A : Type 0} → A → List A → A
 first d [] = d
@@ -103,6 +119,11 @@ sixteen-lent x (starts id challenge name retries reply) = refl
 sixteen-lent x (brings packet table fresh reply) = refl
 sixteen-lent x (resends reply) = refl
 
+changes-lent : (x : Side) (c : Call (Side → List ℕ)) → changes (lentTo x c) ≡ changes c
+changes-lent x (starts id challenge name retries reply) = refl
+changes-lent x (brings packet table fresh reply) = refl
+changes-lent x (resends reply) = refl
+
 reply-lent : (x : Side) (c : Call (Side → List ℕ)) → replyOf (lentTo x c) ≡ replyOf c
 reply-lent x (starts id challenge name retries reply) = refl
 reply-lent x (brings packet table fresh reply) = refl
@@ -112,11 +133,11 @@ reply-lent x (resends reply) = refl
 one-at : (s : List ℕ) (c : ServerCall (Side → List ℕ)) → ((x : Side) → NotRightAt s (lentAt x c)) → serverCallAt s (lentAt one c) ≡ serverCallAt s (lentAt two c)
 one-at s renews h = refl
 one-at s (calls c) h =
-    let told : (x : Side) → serverCallAt s (calls (lentTo x c)) ≡ pick (isServer s && areSixteen c) (toldIn s (serverStep (serverOf s) (lentTo x c))) (unsized s (replyOf c)) =
-    λ x. told-at (lentTo x c) s ∙ (λ i. pick (isServer s && sixteen-lent x c i) (toldIn s (serverStep (serverOf s) (lentTo x c))) (unsized s (reply-lent x c i))) in
+    let told : (x : Side) → serverCallAt s (calls (lentTo x c)) ≡ pick (isServer s && areSixteen c) (toldIn (changes c) s (serverStep (serverOf s) (lentTo x c))) (unsized s (replyOf c)) =
+    λ x. told-at (lentTo x c) s ∙ (λ i. pick (isServer s && sixteen-lent x c i) (toldIn (changes-lent x c i) s (serverStep (serverOf s) (lentTo x c))) (unsized s (reply-lent x c i))) in
     told one
     ∙ tested (isServer s && areSixteen c)
-    (λ e. ap (λ (a : Answered). pick (isServer s && areSixteen c) (toldIn s a) (unsized s (replyOf c))) (one-call (serverOf s) c (λ x. h x (ap (λ (b : Bool). isServer s && b) (sixteen-lent x c) ∙ e))))
+    (λ e. ap (λ (a : Answered). pick (isServer s && areSixteen c) (toldIn (changes c) s a) (unsized s (replyOf c))) (one-call (serverOf s) c (λ x. h x (ap (λ (b : Bool). isServer s && b) (sixteen-lent x c) ∙ e))))
     (λ e. pick-false _ _ _ e ∙ sym (pick-false _ _ _ e))
     ∙ sym (told two)
 

@@ -13,7 +13,7 @@ use Rattle.server.specs.Runs.{starts, brings, resends}
 use Rattle.state.specs.PeerOctets.{peerOf, octetsOfPeer}
 use Rattle.state.specs.ServerOctets.{serverOf, octetsOfServer}
 use Rattle.state.proofs.Fields.{peer-octets-back, server-octets-back}
-use Rattle.calls.specs.Done.{done, unsized, ended}
+use Rattle.calls.specs.Done.{Done, done, unsized, ended, kept}
 use Rattle.calls.specs.Ends.{isPeer, isServer, isSixteen, begun, peerNewAt, peerStepAt, peerSupplyAt, peerGiveUpAt, serverNewAt, serverStartAt, serverPacketAt, serverResendAt}
 use Rattle.calls.specs.Run.{makes, steps, supplies, givesUp, renews, calls}
 use Rattle.calls.specs.Promises.{PeerStays, ServerStays}
@@ -33,18 +33,18 @@ new-stays true false o p s e h = refl
 new-stays false b o p s e h = refl
 
 -- a call that takes no octets of a fixed size beside the state
-alone-stays : {S : Type 0} (octetsOf : S → List ℕ) (a : Bool) (o : Outcome S) (p : S) (s reply : List ℕ) → octetsOf p ≡ s → o .state ≡ p
-    → pick a (ended octetsOf o s reply) (unsized s reply) .state ≡ s
+alone-stays : (a : Bool) (o : Outcome Peer) (p : Peer) (s : List ℕ) → octetsOfPeer p ≡ s → o .state ≡ p
+    → pick a (ended octetsOfPeer o s []) (unsized s []) .state ≡ s
 unfolding pick ended
-alone-stays octetsOf true o p s reply e h = arms (λ (l : List ℕ). l ≡ s) (ltb (o .number) 10) (ap octetsOf h ∙ e) refl
-alone-stays octetsOf false o p s reply e h = refl
+alone-stays true o p s e h = arms (λ (l : List ℕ). l ≡ s) (ltb (o .number) 10) (ap octetsOfPeer h ∙ e) refl
+alone-stays false o p s e h = refl
 
 pub peer-stays : PeerStays
 unfolding peerNewAt peerStepAt peerSupplyAt peerGiveUpAt
 peer-stays s (makes name hash) z h = new-stays (isPeer s) (isSixteen hash) _ (peerOf s) s (peer-octets-back s z) h
 peer-stays s (steps packet random reply) z h = stays octetsOfPeer (isPeer s) (isSixteen random) _ (peerOf s) s reply (peer-octets-back s z) h
 peer-stays s (supplies name hash random reply) z h = stays octetsOfPeer (isPeer s) (isSixteen hash && isSixteen random) _ (peerOf s) s reply (peer-octets-back s z) h
-peer-stays s givesUp z h = alone-stays octetsOfPeer (isPeer s) _ (peerOf s) s [] (peer-octets-back s z) h
+peer-stays s givesUp z h = alone-stays (isPeer s) _ (peerOf s) s (peer-octets-back s z) h
 
 new-server-stays : (a : Bool) (s : List ℕ) → octetsOfServer initial-server ≡ s → pick a (done 0 (octetsOfServer initial-server) []) (unsized s []) .state ≡ s
 unfolding pick
@@ -52,8 +52,8 @@ new-server-stays true s e = e
 new-server-stays false s e = refl
 
 pub server-stays : ServerStays
-unfolding serverNewAt serverStartAt serverPacketAt serverResendAt pick
+unfolding serverNewAt serverStartAt serverPacketAt serverResendAt kept pick
 server-stays s renews z h = new-server-stays (isServer s) s (ap octetsOfServer h ∙ server-octets-back s z)
 server-stays s (calls (starts id challenge name retries reply)) z h = stays octetsOfServer (isServer s) (isSixteen challenge) _ (serverOf s) s reply (server-octets-back s z) h
 server-stays s (calls (brings packet table fresh reply)) z h = stays octetsOfServer (isServer s) (isSixteen fresh) _ (serverOf s) s reply (server-octets-back s z) h
-server-stays s (calls (resends reply)) z h = alone-stays octetsOfServer (isServer s) _ (serverOf s) s reply (server-octets-back s z) h
+server-stays s (calls (resends reply)) z h = arms (λ (d : Done). d .state ≡ s) (isServer s) refl refl

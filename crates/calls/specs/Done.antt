@@ -29,6 +29,10 @@ unfoldable pub ended : {S : Type 0} → (S → List ℕ) → Outcome S → List 
 ended octetsOf o state reply =
     done (wordOf (o .number) (length (o .octets))) (pick (ltb (o .number) 10) (octetsOf (o .state)) state) (over (o .octets) reply)
 
+-- the same of a call that only reads the state
+unfoldable pub kept : {S : Type 0} → Outcome S → List ℕ → List ℕ → Done
+kept o state reply = done (wordOf (o .number) (length (o .octets))) state (over (o .octets) reply)
+
 -- ---- a call without a state: its word and the output buffer
 pub record Made : Type 0 where
   pub word : ℕ
@@ -43,3 +47,7 @@ given number q output = made (wordOf number 0) (pick (ltb number 10) q output)
 
 unfoldable pub givenBy : Told (List ℕ) → List ℕ → Made
 givenBy t output = given (t .number) (t .value) output
+
+-- what a call wrote over the buffer's front
+unfoldable pub wrote : Outcome (Unit {0}) → List ℕ → Made
+wrote o output = made (wordOf (o .number) (length (o .octets))) (over (o .octets) output)

@@ -12,7 +12,7 @@ use Rattle.server.specs.State.{initial}
 use Rattle.server.specs.Calls.{startOf, packetOf, resendOf}
 use Rattle.state.specs.PeerOctets.{peerOctets, peerOf, octetsOfPeer}
 use Rattle.state.specs.ServerOctets.{serverOctets, serverOf, octetsOfServer}
-use Rattle.calls.specs.Done.{wordOf, Done, done, unsized, ended}
+use Rattle.calls.specs.Done.{wordOf, Done, done, unsized, ended, kept}
 
 abbrev pub isPeer : List ℕ → Bool
 isPeer state = eqb (length state) peerOctets
@@ -69,8 +69,9 @@ serverPacketAt state packet table challenge reply =
     (ended octetsOfServer (packetOf (serverOf state) packet table challenge (length reply)) state reply)
     (unsized state reply)
 
+-- "state unchanged": its octets stay, whatever they are
 unfoldable pub serverResendAt : List ℕ → List ℕ → Done
 serverResendAt state reply =
     pick (isServer state)
-    (ended octetsOfServer (resendOf (serverOf state) (length reply)) state reply)
+    (kept (resendOf (serverOf state) (length reply)) state reply)
     (unsized state reply)

@@ -17,7 +17,7 @@ use Rattle.state.specs.Promises.{IsPeerState, IsServerState}
 use Rattle.calls.specs.Done.{wordOf, Done, done, Made, made}
 use Rattle.calls.specs.Ends.{isPeer, isSixteen}
 use Rattle.calls.specs.Run.{PeerCall, makes, steps, supplies, givesUp, peerReply, peerCallAt, peerCall, ServerCall, serverReply, serverCallAt, serverCall}
-use Rattle.calls.specs.Stateless.{readAt, md4At, sha1At, passwordHashAt, desAt, ntResponseAt, authenticatorAt}
+use Rattle.calls.specs.Stateless.{readAt, accountsAppendAt, md4At, sha1At, passwordHashAt, desAt, ntResponseAt, authenticatorAt}
 
 -- ---- number and n can be read back from a word, and no bit is set above them
 pub record WordBack : Type 0 where
@@ -62,9 +62,15 @@ pub data MakesAt (out : List ℕ) : Made → Type 0 where
   gives : (q : List ℕ) → MakesAt out (made (wordOf 0 0) q)
   refuses : (k : ℕ) → IsRefusal k → MakesAt out (made (wordOf k 0) out)
 
+-- and 0 with n octets over the buffer's front, the rest being as before, or a refusal that leaves it
+pub data WritesAt (out : List ℕ) : Made → Type 0 where
+  writes : (q : List ℕ) → length q ≤ length out → WritesAt out (made (wordOf 0 (length q)) (over q out))
+  refuses : (k : ℕ) → IsRefusal k → WritesAt out (made (wordOf k 0) out)
+
 pub record StatelessAnswer : Type 0 where
   pub read : (end : ℕ) (packet : List ℕ) → NumberAt (readAt end packet)
   pub check : (table : List ℕ) → NumberAt (wordOf (checkNumber table) 0)
+  pub append : (buffer : List ℕ) (used code : ℕ) (hash name : List ℕ) → WritesAt buffer (accountsAppendAt buffer used code hash name)
   pub md4 : (message out : List ℕ) → MakesAt out (md4At message out)
   pub sha1 : (message out : List ℕ) → MakesAt out (sha1At message out)
   pub password-hash : (units out : List ℕ) → MakesAt out (passwordHashAt units out)

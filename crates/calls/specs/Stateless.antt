@@ -12,11 +12,16 @@ use Rattle.answer.specs.Outcome.{Told}
 use Rattle.packet.specs.declared.End.the-variants as end
 use Rattle.packet.specs.Frame.{frameOf}
 use Rattle.packet.specs.Reader.{readPacket}
+use Rattle.accounts.specs.Account.{appendIn}
 use Rattle.digest.specs.Md4.{md4Told}
 use Rattle.digest.specs.Sha1.{sha1Told}
 use Rattle.des.specs.Des.{enciphered}
 use Rattle.mschap.specs.Answers.{passwordHashTold, ntResponseTold, authenticatorTold}
-use Rattle.calls.specs.Done.{wordOf, Made, made, givenBy}
+use Rattle.calls.specs.Done.{wordOf, Made, made, givenBy, wrote}
+
+-- the version of the calls, 0.2.0: major * 10000 + minor * 100 + patch
+abbrev pub version : ℕ
+version = 200
 
 -- for an end that is none, 23 after 10 to 12, which are the same for both ends; t is L, or one of those
 unfoldable pub withoutEnd : Told ℕ → ℕ
@@ -31,6 +36,10 @@ readAt e packet =
 
 abbrev pub has : ℕ → List ℕ → Bool
 has n s = eqb (length s) n
+
+-- an account appended to the table that is the buffer's first octets, as many as are used
+unfoldable pub accountsAppendAt : List ℕ → ℕ → ℕ → List ℕ → List ℕ → Made
+accountsAppendAt buffer used code hash name = pick (has 16 hash) (wrote (appendIn buffer used code hash name) buffer) (made 23 buffer)
 
 unfoldable pub md4At : List ℕ → List ℕ → Made
 md4At message output = pick (has 16 output) (givenBy (md4Told message) output) (made 23 output)

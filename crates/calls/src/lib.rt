@@ -9,16 +9,17 @@ ghost use Rattle.answer.specs.Answer.{numberOf};
 ghost use Rattle.packet.specs.Frame.{frameOf, toldFrame};
 ghost use Rattle.packet.specs.Reader.{toldReading, readPacket};
 ghost use Rattle.accounts.specs.Accounts.{checkNumber};
+ghost use Rattle.accounts.specs.Account.{appendIn};
 ghost use Rattle.des.specs.Des.{enciphered};
 ghost use Rattle.mschap.specs.Answers.{passwordHashTold, ntResponseTold, authenticatorTold};
 ghost use Rattle.peer.specs.Calls.{newOf, stepOf, supplyOf, giveUpOf};
 ghost use Rattle.server.specs.Calls.{startOf, packetOf, resendOf};
 ghost use Rattle.state.specs.PeerOctets.{peerOctets, peerOf, octetsOfPeer};
 ghost use Rattle.state.specs.ServerOctets.{serverOctets, serverOf, octetsOfServer};
-ghost use Rattle.calls.specs.Done.{wordOf, done, made, ended, given, givenBy};
+ghost use Rattle.calls.specs.Done.{wordOf, done, made, ended, kept, given, givenBy, wrote};
 ghost use Rattle.calls.specs.Inner.{Encoded};
 ghost use Rattle.calls.specs.Ends.{begun, peerNewAt, peerStepAt, peerSupplyAt, peerGiveUpAt, serverNewAt, serverStartAt, serverPacketAt, serverResendAt};
-ghost use Rattle.calls.specs.Stateless.{unitAt, unitsOf, withoutEnd, readAt, md4At, sha1At, passwordHashAt, desAt, ntResponseAt, authenticatorAt};
+ghost use Rattle.calls.specs.Stateless.{version, unitAt, unitsOf, withoutEnd, readAt, accountsAppendAt, md4At, sha1At, passwordHashAt, desAt, ntResponseAt, authenticatorAt};
 use answer::Answer;
 use answer::Identifier;
 use packet::End;
@@ -272,17 +273,19 @@ pub fn server_packet(
     packet_server(state, packet, table, fresh, reply)
 }
 
-fn resend_server(state: &mut [u8], reply: &mut [u8]) -> u64
+fn resend_server(state: &[u8], reply: &mut [u8]) -> u64
     requires { ⌜ length (now state) ≡ serverOctets ⌝ }
-    ensures { λ r. ⌜ done r (now (state .exit)) (now (reply .exit)) ≡ ended octetsOfServer (resendOf (serverOf (now (state .entry))) (length (now (reply .entry)))) (now (state .entry)) (now (reply .entry)) ⌝ }
+    ensures { λ r. ⌜ done r (now (state .entry)) (now (reply .exit)) ≡ kept (resendOf (serverOf (now (state .entry))) (length (now (reply .entry)))) (now (state .entry)) (now (reply .entry)) ⌝ }
 {
     let s = state::decode_server(state);
     let step = s.resend(reply);
-    keep_server(step, state)
+    let a = step.answer;
+    word(answer::number(a), step.n)
 }
 
-pub fn server_resend(state: &mut [u8], reply: &mut [u8]) -> u64
-    ensures { λ r. ⌜ done r (now (state .exit)) (now (reply .exit)) ≡ serverResendAt (now (state .entry)) (now (reply .entry)) ⌝ }
+// The state is read and not written.
+pub fn server_resend(state: &[u8], reply: &mut [u8]) -> u64
+    ensures { λ r. ⌜ done r (now (state .entry)) (now (reply .exit)) ≡ serverResendAt (now (state .entry)) (now (reply .entry)) ⌝ }
 {
     if state.len() != state::SERVER_OCTETS {
         return 23;
@@ -291,6 +294,12 @@ pub fn server_resend(state: &mut [u8], reply: &mut [u8]) -> u64
 }
 
 // ---- without a state
+pub fn version() -> u64
+    ensures { λ r. ⌜ r ≡ version ⌝ }
+{
+    200
+}
+
 fn read_word(x: Reading) -> u64
     ensures { λ r. ⌜ r ≡ wordOf (toldReading x .number) 0 ⌝ }
 {
@@ -341,6 +350,25 @@ pub fn accounts_check(table: &[u8]) -> u64
 {
     let a = accounts::check(table);
     word(answer::number(a), 0)
+}
+
+fn append_account(table: &mut [u8], used: usize, code: u64, hash: &[u8], name: &[u8]) -> u64
+    requires { ⌜ length (now hash) ≡ 16 ⌝ }
+    ensures { λ r. ⌜ made r (now (table .exit)) ≡ wrote (appendIn (now (table .entry)) used code (now (hash .entry)) (now (name .entry))) (now (table .entry)) ⌝ }
+{
+    let added = accounts::append(table, used, code, sixteen(hash), name);
+    let a = added.answer;
+    word(answer::number(a), added.n)
+}
+
+// An account after a table, which is the first octets of the buffer, as many as are used. n is the table's new length.
+pub fn accounts_append(table: &mut [u8], used: usize, code: u64, hash: &[u8], name: &[u8]) -> u64
+    ensures { λ r. ⌜ made r (now (table .exit)) ≡ accountsAppendAt (now (table .entry)) used code (now (hash .entry)) (now (name .entry)) ⌝ }
+{
+    if hash.len() != 16 {
+        return 23;
+    }
+    append_account(table, used, code, hash, name)
 }
 
 // The answer's word; the octets that were made are written unless the call was refused.

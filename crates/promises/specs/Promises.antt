@@ -9,7 +9,7 @@ use Rattle.mschap.specs.Promises.{UsersExact, ResponsesSized}
 use Rattle.packet.specs.Promises.{ReaderAnswers, RefusedExactly, ReadExactly, FormedReads, ReadsFormed, PaddingIgnored, ReadingTells, ReadRenumbered}
 use Rattle.packet.specs.Learned.{ReadAlike, ReadAlikeButForCase, WrittenReadsBack, SuccessReads, SuccessMessagesApart}
 use Rattle.writers.specs.Promises.{WritersAnswer, WritersReadBack}
-use Rattle.accounts.specs.Promises.{TablesExact, ChecksExact, LookupsExact, FoundApart}
+use Rattle.accounts.specs.Promises.{TablesExact, ChecksExact, LookupsExact, FoundApart, AddedFound, AddedHash, AppendAnswers, AppendedFormed, AppendedFound, AppendedHash}
 use Rattle.verdict.specs.Promises.{VerdictsExact}
 use Rattle.peerlaws.specs.Exact.{NewExact, StepExact, SupplyExact, GiveUpExact}
 use Rattle.peerlaws.specs.Promises as peer
@@ -49,6 +49,7 @@ pub record Demand1 : Type 0 where
   pub check-answers : ChecksExact
   pub find-answers : LookupsExact
   pub found-apart : FoundApart
+  pub append-answers : AppendAnswers
   -- the same of every call at the boundary, whatever the sizes of the slices
   pub peer-at : PeerAnswersAt
   pub server-at : ServerAnswersAt
@@ -155,6 +156,13 @@ pub record Beyond : Type 0 where
   pub tries-succeed : TriesSucceed
   pub tries-fail : TriesFail
   pub premises-met : PremisesMet
+  -- an account added to a table is found under its name, with its code and hash, unless an earlier one has that name; other names are found as before;
+  -- and what `append` makes is a well-formed table
+  pub added-found : AddedFound
+  pub added-hash : AddedHash
+  pub appended-formed : AppendedFormed
+  pub appended-found : AppendedFound
+  pub appended-hash : AppendedHash
   -- after the retries and a Failure Response the server is in FAILED
   pub fails : Fails
   -- a reply buffer of `REPLY_ROOM` octets, or of `REQUEST_ROOM`, is enough

@@ -1,4 +1,4 @@
-use Rattle.calls.proofs.Laws.{resend-ended}
+use Rattle.calls.proofs.Laws.{resend-kept}
 use borrow.Author.Needs.{needs}
 use Rattle.calls.proofs.resend_server.Statement.{statement}
 use Rattle.calls.proofs.resend_server.Tie as tie
@@ -10,6 +10,6 @@ resend-server-spec =
     (λ c κs. search needs)
     (λ c κs. search needs)
     (λ c κs. search needs)
+    (λ c κs. search needs)
     (λ c. search needs)
-    (λ c. search needs)
-    (λ c. search (needs, resend-ended)))
+    (λ c. search (needs, resend-kept)))

@@ -1,5 +1,6 @@
 use Rattle.calls.specs.Ends.{serverResendAt}
 use Rattle.calls.proofs.Laws.{sizes}
+use borrow.Author.Needs.{needs}
 use Rattle.calls.proofs.server_resend.Statement.{statement}
 use Rattle.calls.proofs.server_resend.Tie as tie
 
@@ -9,7 +10,6 @@ server-resend-spec =
     tie.close
     (tie.spec
     (λ c. search sizes)
-    (λ c κs. search sizes)
-    (λ c. search sizes)
-    (λ c. search sizes)
+    (λ c κs. search needs)
+    (λ c. search needs)
     (λ c. search sizes))
