@@ -6,23 +6,39 @@
  * block on nothing. A conversation's state is a buffer of the caller's, which may be stored and
  * copied at will. Timers, randomness and the network are the caller's.
  *
- * A peer's whole login, where receive, draw and transmit are the caller's:
+ * A peer's whole login, where receive, draw and transmit are the caller's. receive waits for a
+ * packet and gives its length, or 0 once the time for this login is up, whatever still comes.
  *
  * example
  *     int log_in(const uint8_t *name, size_t name_len, const uint8_t *hash)
  *     {
  *         uint8_t peer[ZT_PEER_OCTETS], packet[ZT_MAX_PACKET], random[16], reply[ZT_PEER_ROOM];
+ *         size_t len;
  *         zt_peer_new(peer, sizeof peer, name, name_len, hash, 16);
- *         while (ZT_STAGE(peer) != ZT_PEER_SUCCESS && ZT_STAGE(peer) != ZT_PEER_FAILED) {
- *             size_t len = receive(packet, sizeof packet);
+ *         while (ZT_PEER_STAGE(peer) < ZT_PEER_SUCCESS && (len = receive(packet, sizeof packet)) > 0) {
  *             draw(random, sizeof random);
  *             uint64_t answer = zt_peer_step(peer, sizeof peer, packet, len, random, 16, reply, sizeof reply);
  *             if (ZT_NUMBER(answer) == ZT_WRITTEN) transmit(reply, ZT_N(answer));
  *             if (ZT_NUMBER(answer) == ZT_NEEDS_CREDENTIALS) zt_peer_give_up(peer, sizeof peer);
  *         }
- *         return ZT_STAGE(peer) == ZT_PEER_SUCCESS;
+ *         return ZT_PEER_STAGE(peer);
  *     }
  * end of example
+ *
+ * It gives the stage in which the login ended. ZT_PEER_SUCCESS is logged in, ZT_PEER_FAILED is not.
+ * Any other says that time ran out, and how far it came:
+ *   ZT_PEER_BEGIN                    no Challenge came: nobody asked
+ *   ZT_PEER_CHALLENGE_RESPONSE_SENT  no verdict came: start over
+ *   ZT_PEER_SUCCESS_RESPONSE_SENT    the server has shown that it knows the password; EAP Success, or
+ *                                    the reply that brings it, was lost: not logged in, start over
+ *   ZT_PEER_FAILURE_RESPONSE_SENT    refused; EAP Failure, or the reply that brings it, was lost
+ *   ZT_PEER_WAITING                  does not occur in the example, which gives up at once
+ * To start over is zt_peer_new, and a new conversation of the server's.
+ *
+ * A server resends (zt_server_resend) on a timer while its stage's name ends in SENT, and after some
+ * resends drops the state. EAP Success and EAP Failure are not answered, and not sent again (RFC
+ * 3748, 4.2): in ZT_SERVER_SUCCESS and ZT_SERVER_FAILED there is nothing to resend, and a peer that
+ * did not get the last packet starts over.
  *
  * Every buffer comes as a pointer and its length in octets. A buffer of length 0 may have a null
  * pointer. A buffer that a call writes (one that is not const) must not overlap another buffer of
@@ -127,8 +143,6 @@ uint64_t zt_version(void);
  *       312    1020  last answered request (ZT_PEER_WAITING: the Failure Request to be answered)
  *      1332     315  last reply, to that request (ZT_PEER_WAITING: to the one before it)
  */
-#define ZT_STAGE(state) ((state)[0])
-
 #define ZT_PEER_BEGIN 0
 #define ZT_PEER_CHALLENGE_RESPONSE_SENT 1
 #define ZT_PEER_SUCCESS_RESPONSE_SENT 2
@@ -136,6 +150,12 @@ uint64_t zt_version(void);
 #define ZT_PEER_WAITING 4
 #define ZT_PEER_SUCCESS 5
 #define ZT_PEER_FAILED 6
+
+/* The stage of a peer's state: ZT_PEER_FAILED for an octet that is no stage, as the calls take it. */
+static inline int ZT_PEER_STAGE(const uint8_t *state)
+{
+    return state[0] < ZT_PEER_FAILED ? state[0] : ZT_PEER_FAILED;
+}
 
 /*
  * The server's state, by the same rules; a stage that is not below is ZT_SERVER_FAILED
@@ -155,6 +175,12 @@ uint64_t zt_version(void);
 #define ZT_SERVER_FAILURE_REQUEST_SENT 3
 #define ZT_SERVER_SUCCESS 4
 #define ZT_SERVER_FAILED 5
+
+/* The stage of a server's state: ZT_SERVER_FAILED for an octet that is no stage. */
+static inline int ZT_SERVER_STAGE(const uint8_t *state)
+{
+    return state[0] < ZT_SERVER_FAILED ? state[0] : ZT_SERVER_FAILED;
+}
 
 /*
  * The peer

@@ -76,9 +76,9 @@ static void right_password(void)
     EXPECT(request[1] == 0); /* the Identifier after 255 */
     ANSWERS(to_peer(54), ZT_WRITTEN, 6);
     ANSWERS(to_server(6), ZT_AUTHENTICATED, 4);
-    EXPECT(ZT_STAGE(server) == ZT_SERVER_SUCCESS);
+    EXPECT(ZT_SERVER_STAGE(server) == ZT_SERVER_SUCCESS);
     ANSWERS(to_peer(4), ZT_AUTHENTICATED, 0);
-    EXPECT(ZT_STAGE(peer) == ZT_PEER_SUCCESS);
+    EXPECT(ZT_PEER_STAGE(peer) == ZT_PEER_SUCCESS);
 }
 
 /* A Success message that ends with its digits: ` M=` is padding then. With one octet more it has no form. */
@@ -97,7 +97,7 @@ static void success_without_a_message(void)
     ANSWERS(to_peer(51), ZT_WRITTEN, 6);
     ANSWERS(to_server(6), ZT_AUTHENTICATED, 4);
     ANSWERS(to_peer(4), ZT_AUTHENTICATED, 0);
-    EXPECT(ZT_STAGE(peer) == ZT_PEER_SUCCESS);
+    EXPECT(ZT_PEER_STAGE(peer) == ZT_PEER_SUCCESS);
 }
 
 /* A wrong password, and then the right one: what was lost comes again. */
@@ -127,9 +127,9 @@ static void wrong_password(void)
     ANSWERS(to_server(68), ZT_WRITTEN, 60);
     ANSWERS(to_peer(60), ZT_WRITTEN, 6);
     ANSWERS(to_server(6), ZT_ENDED, 4);
-    EXPECT(ZT_STAGE(server) == ZT_SERVER_FAILED);
+    EXPECT(ZT_SERVER_STAGE(server) == ZT_SERVER_FAILED);
     ANSWERS(to_peer(4), ZT_ENDED, 0);
-    EXPECT(ZT_STAGE(peer) == ZT_PEER_FAILED);
+    EXPECT(ZT_PEER_STAGE(peer) == ZT_PEER_FAILED);
     ANSWERS(zt_peer_give_up(peer, sizeof peer), ZT_NOT_TAKEN, 0);
 }
 
@@ -150,7 +150,7 @@ static void refusals(void)
     EXPECT(memcmp(before, peer, sizeof peer) == 0);
     EXPECT(reply[0] == 0x5A && memcmp(reply, reply + 1, sizeof reply - 1) == 0);
     ANSWERS(zt_peer_new(peer, sizeof peer, long_name, sizeof long_name, HASH, 16), ZT_BAD_ARGUMENT, 0);
-    EXPECT(ZT_STAGE(peer) == ZT_PEER_FAILED);
+    EXPECT(ZT_PEER_STAGE(peer) == ZT_PEER_FAILED);
 }
 
 static void without_a_state(void)
