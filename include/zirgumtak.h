@@ -65,9 +65,10 @@ uint64_t zt_version(void);
 /*
  * Answers
  *
- * Each function answers one word: a number in bits 0 to 7, n in bits 8 to 31, and zeros above.
- * n is the length of the packet that was written to the start of the reply buffer, the octets
- * after it being left as they were; n is 0 where no packet was written.
+ * Each function but zt_version answers one word: a number in bits 0 to 7, n in bits 8 to 31, and
+ * zeros above. n is the length of the packet that was written to the start of the reply buffer, the
+ * octets after it being left as they were; n is 0 where no packet was written. (One exception:
+ * zt_accounts_append gives a table's length.)
  *
  * A number from 10 up is a refusal: n is 0, and no octet of any buffer has changed, the state's
  * included. (One exception: zt_peer_new of a name that is too long.) Where several conditions
@@ -90,7 +91,7 @@ uint64_t zt_version(void);
 #define ZT_BAD_FORM 17         /* the rest of the packet breaks its form */
 #define ZT_WRONG_IDENTIFIER 18 /* Identifier or MS-CHAPv2-ID is not the one due */
 #define ZT_NOT_TAKEN 19        /* this stage does not take this packet or call */
-#define ZT_NO_ROOM 20          /* the reply is longer than its buffer */
+#define ZT_NO_ROOM 20          /* the reply, or the table, is longer than its buffer */
 #define ZT_BAD_TABLE 21        /* the account table is malformed */
 #define ZT_SAME_CHALLENGE 22   /* a Failure Request is due, and the fresh challenge is the old one */
 #define ZT_BAD_ARGUMENT 23     /* an argument outside its size */
@@ -255,7 +256,7 @@ uint64_t zt_server_resend(const uint8_t *state, size_t state_len,
                           uint8_t *reply, size_t reply_len);
 
 /*
- * Without a state. Each answers 0 with n = 0, or a refusal.
+ * Without a state. Each answers 0, with n = 0 but for zt_accounts_append, or a refusal.
  */
 
 /* Whether a packet can be read by an end: 0 is the peer, 1 the server. Refusals: 10 to 17; for

@@ -103,11 +103,12 @@ static void success_without_a_message(void)
 /* A wrong password, and then the right one: what was lost comes again. */
 static void second_try(void)
 {
+    const uint8_t *outstanding = server;
     ANSWERS(new_peer(WRONG_HASH), ZT_WRITTEN, 0);
     ANSWERS(start(1), ZT_WRITTEN, 31);
     ANSWERS(to_peer(31), ZT_WRITTEN, 68);
     memset(reply, 0, sizeof reply);
-    ANSWERS(zt_server_resend(server, sizeof server, request, sizeof request), ZT_WRITTEN, 31);
+    ANSWERS(zt_server_resend(outstanding, sizeof server, request, sizeof request), ZT_WRITTEN, 31);
     ANSWERS(to_peer(31), ZT_WRITTEN, 68);
     ANSWERS(to_server(68), ZT_WRITTEN, 60);
     ANSWERS(to_peer(60), ZT_NEEDS_CREDENTIALS, 0);
@@ -153,6 +154,36 @@ static void refusals(void)
     EXPECT(ZT_PEER_STAGE(peer) == ZT_PEER_FAILED);
 }
 
+/* The account of TABLE is appended to no table, and another to that; a refusal changes nothing. */
+static void appended_accounts(void)
+{
+    uint8_t table[2 * sizeof TABLE], before[2 * sizeof TABLE];
+    static const uint8_t long_name[ZT_MAX_NAME + 1];
+    memset(table, 0x5A, sizeof table);
+    ANSWERS(zt_accounts_append(table, sizeof table, 0, 0, HASH, 16, USER, USER_LEN), ZT_WRITTEN, 26);
+    EXPECT(memcmp(table, TABLE, 26) == 0 && table[26] == 0x5A);
+    ANSWERS(zt_accounts_append(table, sizeof table, 26, 647, HASH, 16, SERVER_NAME, 4), ZT_WRITTEN, 52);
+    EXPECT(memcmp(table, TABLE, 26) == 0 && table[30] == (647 & 255) && table[31] == 647 >> 8);
+    EXPECT(memcmp(table + 32, HASH, 16) == 0 && memcmp(table + 48, SERVER_NAME, 4) == 0);
+    ANSWERS(zt_accounts_check(table, 52), 0, 0);
+    memcpy(before, table, sizeof table);
+    ANSWERS(zt_accounts_append(table, 51, 52, 0, HASH, 16, USER, USER_LEN), ZT_BAD_ARGUMENT, 0);
+    ANSWERS(zt_accounts_append(table, 52, 26, 0, HASH, 15, USER, USER_LEN), ZT_BAD_ARGUMENT, 0);
+    ANSWERS(zt_accounts_append(table, 52, 25, 0, HASH, 16, USER, USER_LEN), ZT_BAD_TABLE, 0);
+    ANSWERS(zt_accounts_append(table, 52, 26, 645, HASH, 16, USER, USER_LEN), ZT_BAD_ARGUMENT, 0);
+    ANSWERS(zt_accounts_append(table, 52, 26, 0, HASH, 16, long_name, sizeof long_name), ZT_BAD_ARGUMENT, 0);
+    ANSWERS(zt_accounts_append(table, 51, 26, 0, HASH, 16, USER, USER_LEN), ZT_NO_ROOM, 0);
+    EXPECT(memcmp(before, table, sizeof table) == 0);
+}
+
+static void version(void)
+{
+    char text[32];
+    sprintf(text, "%d.%d.%d", ZT_VERSION / 10000, ZT_VERSION / 100 % 100, ZT_VERSION % 100);
+    EXPECT(strcmp(text, ZT_VERSION_TEXT) == 0);
+    EXPECT(zt_version() == ZT_VERSION);
+}
+
 static void without_a_state(void)
 {
     static const uint8_t abc[] = {'a', 'b', 'c'};
@@ -196,6 +227,8 @@ int main(void)
     wrong_password();
     refusals();
     without_a_state();
+    appended_accounts();
+    version();
     if (surprises == 0)
         puts("login.c: logged in, refused and computed as expected");
     return surprises != 0;

@@ -24,7 +24,7 @@ struct use {
 
 static uint8_t stack[STACK_OCTETS] __attribute__((aligned(16)));
 static const uint8_t CHALLENGE[16] = {9}, RANDOM[16] = {10}, NT_RESPONSE[24] = {11}, KEY[8] = {12};
-static uint8_t units[ZT_MAX_PASSWORD], hash[16], wrong_hash[16], name[NAME_LEN], table[RECORD];
+static uint8_t units[ZT_MAX_PASSWORD], hash[16], wrong_hash[16], name[NAME_LEN], table[RECORD], longer[2 * RECORD];
 static size_t units_len = ZT_MAX_PASSWORD;
 static uint8_t peer[ZT_PEER_OCTETS], server[ZT_SERVER_OCTETS], fresh[16], out[24];
 /* The packet on its way, and the one that answers it. */
@@ -108,6 +108,8 @@ CALL(server_packet, (server, sizeof server, packet, packet_len, table, sizeof ta
 CALL(server_resend, (server, sizeof server, reply, sizeof reply));
 CALL(read, (0, packet, packet_len));
 CALL(accounts_check, (table, sizeof table));
+CALL(accounts_append, (longer, sizeof longer, sizeof table, 0, hash, 16, name, NAME_LEN));
+CALL(version, ());
 CALL(md4, (units, units_len, out, 16));
 CALL(sha1, (units, units_len, out, 20));
 CALL(password_hash, (units, units_len, out, 16));
@@ -116,8 +118,8 @@ CALL(nt_response, (CHALLENGE, 16, RANDOM, 16, name, NAME_LEN, hash, 16, out, 24)
 CALL(authenticator, (hash, 16, NT_RESPONSE, 24, RANDOM, 16, CHALLENGE, 16, name, NAME_LEN, out, 20));
 
 static struct use *const all[] = {&peer_new, &peer_step, &peer_supply, &peer_give_up, &server_new, &server_start,
-                                  &server_packet, &server_resend, &read, &accounts_check, &md4, &sha1, &password_hash,
-                                  &des, &nt_response, &authenticator};
+                                  &server_packet, &server_resend, &read, &accounts_check, &accounts_append, &version, &md4,
+                                  &sha1, &password_hash, &des, &nt_response, &authenticator};
 
 static void must(unsigned number)
 {
@@ -198,6 +200,10 @@ static void wrong_passwords(void)
 static void without_a_state(void)
 {
     MEASURE(accounts_check);
+    memcpy(longer, table, sizeof table);
+    MEASURE(accounts_append);
+    must(ZT_WRITTEN);
+    MEASURE(version);
     for (units_len = 0; units_len <= 128; units_len += 2) {
         MEASURE(md4);
         MEASURE(sha1);
