@@ -108,8 +108,9 @@ pub fn server_packet(
     on_server(state, |server| server.packet(packet, table, fresh, reply))
 }
 
-pub fn server_resend(state: &mut [u8], reply: &mut [u8]) -> Told {
-    on_server(sized_mut(state)?, |server| server.resend(reply))
+/// Reads the state, and leaves its octets whatever they are.
+pub fn server_resend(state: &[u8], reply: &mut [u8]) -> Told {
+    Ok(server_of(sized(state)?).resend(reply))
 }
 
 /// End 0 is the peer, 1 the server; another is 23, after 10 to 12, which are the same for both ends.
@@ -127,6 +128,17 @@ pub fn read(end: u8, lent: &[u8]) -> Told {
 pub fn accounts_check(table: &[u8]) -> Told {
     accounts::check(table)?;
     Ok((0, 0))
+}
+
+pub fn accounts_append(
+    buffer: &mut [u8],
+    used: usize,
+    code: u64,
+    hash: &[u8],
+    name: &[u8],
+) -> Told {
+    let n = accounts::append(buffer, used, code, sized(hash)?, name)?;
+    Ok((0, n))
 }
 
 pub fn md4(data: &[u8], out: &mut [u8]) -> Told {

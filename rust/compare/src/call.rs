@@ -40,6 +40,12 @@ pub enum Call<'a> {
     AccountsCheck {
         table: &'a [u8],
     },
+    AccountsAppend {
+        used: usize,
+        code: u64,
+        hash: &'a [u8],
+        name: &'a [u8],
+    },
     Md4 {
         data: &'a [u8],
     },
@@ -72,7 +78,7 @@ use Call::*;
 
 /// Each function and every number that it can answer (document 01, "What a call answers", and the
 /// boundary's own rule for sizes).
-pub const ANSWERS: [(&str, &[u8]); 16] = [
+pub const ANSWERS: [(&str, &[u8]); 17] = [
     ("zt_peer_new", &[0, 23]),
     (
         "zt_peer_step",
@@ -91,6 +97,7 @@ pub const ANSWERS: [(&str, &[u8]); 16] = [
     ("zt_server_resend", &[0, 19, 20, 23]),
     ("zt_read", &[0, 10, 11, 12, 13, 14, 15, 16, 17, 23]),
     ("zt_accounts_check", &[0, 21]),
+    ("zt_accounts_append", &[0, 20, 21, 23]),
     ("zt_md4", &[0, 23]),
     ("zt_sha1", &[0, 23]),
     ("zt_password_hash", &[0, 23]),
@@ -99,7 +106,7 @@ pub const ANSWERS: [(&str, &[u8]); 16] = [
     ("zt_authenticator", &[0, 23]),
 ];
 
-/// The call made by a module that has all sixteen functions.
+/// The call made by a module that has all of the functions.
 macro_rules! made_by {
     ($module:ident, $call:expr, $state:ident, $out:ident) => {
         match $call {
@@ -124,6 +131,12 @@ macro_rules! made_by {
             ServerResend => $module::server_resend($state, $out),
             Read { end, packet } => $module::read(end, packet),
             AccountsCheck { table } => $module::accounts_check(table),
+            AccountsAppend {
+                used,
+                code,
+                hash,
+                name,
+            } => $module::accounts_append($out, used, code, hash, name),
             Md4 { data } => $module::md4(data, $out),
             Sha1 { data } => $module::sha1(data, $out),
             PasswordHash { units } => $module::password_hash(units, $out),
@@ -159,12 +172,13 @@ impl Call<'_> {
             ServerResend => 7,
             Read { .. } => 8,
             AccountsCheck { .. } => 9,
-            Md4 { .. } => 10,
-            Sha1 { .. } => 11,
-            PasswordHash { .. } => 12,
-            Des { .. } => 13,
-            NtResponse { .. } => 14,
-            Authenticator { .. } => 15,
+            AccountsAppend { .. } => 10,
+            Md4 { .. } => 11,
+            Sha1 { .. } => 12,
+            PasswordHash { .. } => 13,
+            Des { .. } => 14,
+            NtResponse { .. } => 15,
+            Authenticator { .. } => 16,
         }
     }
 }

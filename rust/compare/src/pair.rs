@@ -208,12 +208,16 @@ impl Side {
                 | Call::ServerStart { .. }
                 | Call::ServerPacket { .. }
                 | Call::ServerResend
+                | Call::AccountsAppend { .. }
         );
+        let reads_state = matches!(call, Call::ServerResend);
         let made = matches!(call, Call::PeerNew { .. });
         if refused && !made && (answer.n, self.state(), self.buffer()) != (0, state, buffer) {
             Some("both wrote at a refusal")
         } else if writes_packets && self.buffer()[answer.n..] != buffer[answer.n..] {
             Some("both wrote after the packet")
+        } else if reads_state && self.state() != state {
+            Some("both wrote a state that is only read")
         } else {
             None
         }

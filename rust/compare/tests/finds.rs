@@ -191,3 +191,84 @@ fn another_end_before_the_frame() {
     });
     assert!(found.expect("a difference").contains("zt_read"));
 }
+
+/// The retry count cut to what a start allows, in a state that nobody made.
+#[test]
+fn a_state_written_at_a_resend() {
+    let planted: Implementation = |call, state, out| {
+        let word = by_second(call, state, out);
+        if matches!(call, Call::ServerResend) && word as u8 == 0 {
+            state[3] = state[3].min(10);
+        }
+        word
+    };
+    assert!(difference(planted)
+        .expect("a difference")
+        .contains("zt_server_resend"));
+    assert!(shared(planted)
+        .expect("a difference")
+        .starts_with("both wrote a state that is only read"));
+}
+
+/// One octet more than a table may have.
+#[test]
+fn a_table_too_long() {
+    let found = difference(|call, state, out| match call {
+        Call::AccountsAppend { used, name, .. }
+            if used.saturating_add(22 + name.len()) == 65_537 && out.len() >= 65_537 =>
+        {
+            65_537 << 8
+        }
+        _ => by_second(call, state, out),
+    });
+    assert!(found.expect("a difference").contains("zt_accounts_append"));
+}
+
+/// The code cut to 16 bits.
+#[test]
+fn a_code_cut_off() {
+    let found = difference(|call, state, out| match *call {
+        Call::AccountsAppend {
+            used,
+            code,
+            hash,
+            name,
+        } => {
+            let code = code & 0xffff;
+            let cut = Call::AccountsAppend {
+                used,
+                code,
+                hash,
+                name,
+            };
+            by_second(&cut, state, out)
+        }
+        _ => by_second(call, state, out),
+    });
+    assert!(found.expect("a difference").contains("zt_accounts_append"));
+}
+
+#[test]
+fn an_account_appended_to_no_table() {
+    let found = difference(
+        |call, state, out| match (call, by_second(call, state, out)) {
+            (Call::AccountsAppend { .. }, 21) => 0,
+            (_, word) => word,
+        },
+    );
+    assert!(found.expect("a difference").contains("zt_accounts_append"));
+}
+
+#[test]
+fn one_octet_before_the_new_account() {
+    let found = shared(|call, state, out| {
+        let word = by_second(call, state, out);
+        if let (Call::AccountsAppend { used: 1.., .. }, 0) = (call, word as u8) {
+            out[0] = !out[0];
+        }
+        word
+    });
+    assert!(found
+        .expect("a difference")
+        .starts_with("both appended something else"));
+}

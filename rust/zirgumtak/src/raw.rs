@@ -26,7 +26,7 @@ macro_rules! function {
             ($($passed)* $argument,) $($rest)*
         }
     };
-    ({$(#[$doc:meta])* $name:ident = $symbol:ident} ($($safe:tt)*) ($($theirs:tt)*) ($($passed:tt)*)) => {
+    ({$(#[$doc:meta])* $name:ident = $symbol:ident} ($($safe:tt)*) ($($theirs:tt)*) ($($passed:tt)*) $(,)?) => {
         $(#[$doc])*
         pub fn $name($($safe)*) -> u64 {
             extern "C" {
@@ -65,11 +65,16 @@ functions! {
     server_packet = zt_server_packet(writes state, reads packet, reads table, reads fresh,
         writes reply);
     /// The outstanding request again.
-    server_resend = zt_server_resend(writes state, writes reply);
+    server_resend = zt_server_resend(reads state, writes reply);
+    /// The archive's version, and no answer: major * 10000 + minor * 100 + patch.
+    version = zt_version();
     /// Whether an end, 0 the peer or 1 the server, can read a packet.
     read = zt_read(u8 end, reads packet);
     /// Whether an account table is well formed.
     accounts_check = zt_accounts_check(reads table);
+    /// An account after the table that is the buffer's first `used` octets.
+    accounts_append = zt_accounts_append(writes table, usize used, u64 code, reads hash,
+        reads name);
     /// MD4.
     md4 = zt_md4(reads data, writes digest);
     /// SHA-1.

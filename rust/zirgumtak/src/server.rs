@@ -91,7 +91,7 @@ impl Server {
 
     /// Writes the outstanding request again, for a peer that does not answer; 19, 20.
     pub fn resend<'b>(&mut self, reply: &'b mut [u8]) -> Result<Answer<'b>, Refusal> {
-        let word = raw::server_resend(&mut self.octets, reply);
+        let word = raw::server_resend(&self.octets, reply);
         answer_of(word, reply)
     }
 

@@ -3,6 +3,7 @@
 use crate::pair::{Pair, Run};
 use crate::random::Random;
 
+mod appends;
 mod conversations;
 mod forms;
 mod guesses;
@@ -13,7 +14,7 @@ mod tables;
 
 pub type Part = fn(&mut Pair, &mut Random) -> Run<()>;
 
-pub const PARTS: [(&str, Part); 7] = [
+pub const PARTS: [(&str, Part); 8] = [
     (
         "published vectors and captured conversations",
         published::run,
@@ -22,6 +23,7 @@ pub const PARTS: [(&str, Part); 7] = [
     ("changed, cut and padded packets", forms::run),
     ("states of any octets", states::run),
     ("account tables", tables::run),
+    ("accounts appended", appends::run),
     ("wrong guesses at two servers", guesses::run),
     ("sizes and stateless calls", sizes::run),
 ];
