@@ -4,6 +4,7 @@ use core::fmt;
 
 /// A call that was not refused. The octets are those written to the start of the lent buffer.
 #[derive(Clone, Copy, PartialEq, Eq, Debug)]
+#[non_exhaustive]
 pub enum Answer<'b> {
     /// 0: the packet to send.
     Written(&'b [u8]),
@@ -39,6 +40,7 @@ impl<'b> Answer<'b> {
 
 /// A call that was refused: it changed nothing and wrote nothing. The values are the numbers.
 #[derive(Clone, Copy, PartialEq, Eq, Debug)]
+#[non_exhaustive]
 #[repr(u8)]
 pub enum Refusal {
     /// Fewer than 4 octets lent.
@@ -61,7 +63,7 @@ pub enum Refusal {
     WrongIdentifier = 18,
     /// This stage does not take this packet or call.
     NotTaken = 19,
-    /// The reply is longer than the buffer.
+    /// What is to be written is longer than the buffer.
     NoRoom = 20,
     /// The account table is malformed.
     BadTable = 21,
@@ -73,7 +75,7 @@ pub enum Refusal {
 
 impl Refusal {
     /// All of them, in the order of their numbers.
-    pub const ALL: [Refusal; 14] = [
+    pub const ALL: &'static [Refusal] = &[
         Refusal::Short,
         Refusal::BadLength,
         Refusal::TooLong,
@@ -107,7 +109,7 @@ impl Refusal {
             Refusal::BadForm => "the packet breaks its form",
             Refusal::WrongIdentifier => "wrong identifier",
             Refusal::NotTaken => "not taken in this stage",
-            Refusal::NoRoom => "reply longer than the buffer",
+            Refusal::NoRoom => "no room for what is to be written",
             Refusal::BadTable => "account table malformed",
             Refusal::SameChallenge => "fresh challenge equals the outstanding one",
             Refusal::BadArgument => "an argument outside its size",
@@ -142,7 +144,7 @@ pub(crate) fn done_of(word: u64) -> Result<(), Refusal> {
 
 fn refusal_of(number: u8) -> Refusal {
     let found = Refusal::ALL
-        .into_iter()
+        .iter()
         .find(|refusal| refusal.number() == number);
-    found.expect("the archive answers 0 to 3 and 10 to 23")
+    *found.expect("an archive of this crate's version answers 0 to 3 and 10 to 23")
 }

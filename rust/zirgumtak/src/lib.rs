@@ -13,7 +13,7 @@
 //! fn main() -> Result<(), Refusal> {
 //!     let hash = PasswordHash::of("clientPass")?;
 //!     // One account: length 26, kind 1, code 0, hash, name.
-//!     let table = [&[26, 0, 1, 0, 0, 0][..], &hash.0, b"User"].concat();
+//!     let table = [&[26, 0, 1, 0, 0, 0][..], hash.octets(), b"User"].concat();
 //!
 //!     let mut peer = Peer::new(br"CAMP\User", &hash)?;
 //!     let mut server = Server::new();
@@ -32,22 +32,50 @@
 //!     Ok(())
 //! }
 //! ```
+//!
+//! # Secrets
+//!
+//! A [`PasswordHash`], a [`Peer`] and a [`Server`] are wiped when they are dropped. That reaches
+//! them where they are then. A value that is moved may leave its octets where it was, so one that
+//! lives long is best kept in one place; and the archive's functions leave hash and password on the
+//! stack that they used, which is the caller's to overwrite.
+//!
+//! # Versions
+//!
+//! Numbers may come to answers, refusals and stages, so a `match` of them needs a last arm for
+//! all others. A number that this crate does not know is a panic.
+//!
+//! # Features
+//!
+//! `raw`, off by default, makes public the archive's functions over slices of any size. It is for
+//! programs that test the sizes.
 #![no_std]
 #![deny(unsafe_code)]
 #![warn(missing_docs)]
 
 mod answer;
+mod password;
 mod peer;
+#[cfg(feature = "raw")]
 pub mod raw;
+/// Nobody else can call these:
+///
+/// ```compile_fail,E0603
+/// zirgumtak::raw::md4(&[], &mut []);
+/// ```
+#[cfg(not(feature = "raw"))]
+mod raw;
 mod server;
 mod stateless;
+mod table;
+mod wiped;
 
 pub use answer::{Answer, Refusal};
+pub use password::PasswordHash;
 pub use peer::{Peer, PeerStage};
 pub use server::{Server, ServerStage};
-pub use stateless::{
-    accounts_check, authenticator, des, md4, nt_response, read, sha1, End, PasswordHash,
-};
+pub use stateless::{authenticator, des, md4, nt_response, read, sha1, End};
+pub use table::accounts_check;
 
 /// Hashes, challenges and random octets have 16 octets.
 pub type Octets16 = [u8; 16];

@@ -3,10 +3,12 @@
 use core::fmt;
 
 use crate::answer::{answer_of, done_of, Answer, Refusal};
+use crate::wiped::Wiped;
 use crate::{raw, Octets16, PasswordHash};
 
 /// The stages of a peer.
 #[derive(Clone, Copy, PartialEq, Eq, Debug)]
+#[non_exhaustive]
 pub enum PeerStage {
     /// Made, and nothing answered yet.
     Begin,
@@ -27,10 +29,10 @@ pub enum PeerStage {
 /// The peer: the one that logs in.
 ///
 /// The state is octets of a fixed layout (`zirgumtak.h`), and may be stored and brought back. It
-/// holds the password hash.
+/// holds the password hash, and is wiped when it is dropped.
 #[derive(Clone)]
 pub struct Peer {
-    octets: [u8; Peer::OCTETS],
+    octets: Wiped<{ Peer::OCTETS }>,
 }
 
 impl Peer {
@@ -45,9 +47,10 @@ impl Peer {
 
     /// A peer in BEGIN; [`Refusal::BadArgument`] for a name over 256 octets.
     pub fn new(name: &[u8], hash: &PasswordHash) -> Result<Peer, Refusal> {
-        let mut octets = [0; Peer::OCTETS];
-        done_of(raw::peer_new(&mut octets, name, &hash.0))?;
-        Ok(Peer { octets })
+        let mut peer = Peer::from_octets([0; Peer::OCTETS]);
+        done_of(raw::peer_new(&mut peer.octets.0, name, hash.octets()))?;
+        // A move would leave the octets here; this one is wiped.
+        Ok(peer.clone())
     }
 
     /// Takes a packet. The random octets are to be new at each call; they become the peer
@@ -61,7 +64,7 @@ impl Peer {
         random: &Octets16,
         reply: &'b mut [u8],
     ) -> Result<Answer<'b>, Refusal> {
-        let word = raw::peer_step(&mut self.octets, packet, random, reply);
+        let word = raw::peer_step(&mut self.octets.0, packet, random, reply);
         answer_of(word, reply)
     }
 
@@ -75,18 +78,18 @@ impl Peer {
         random: &Octets16,
         reply: &'b mut [u8],
     ) -> Result<Answer<'b>, Refusal> {
-        let word = raw::peer_supply(&mut self.octets, name, &hash.0, random, reply);
+        let word = raw::peer_supply(&mut self.octets.0, name, hash.octets(), random, reply);
         answer_of(word, reply)
     }
 
     /// Ends the conversation in WAITING, with nothing to send; 19 elsewhere.
     pub fn give_up(&mut self) -> Result<(), Refusal> {
-        done_of(raw::peer_give_up(&mut self.octets))
+        done_of(raw::peer_give_up(&mut self.octets.0))
     }
 
     /// The stage, octet 0 of the state.
     pub fn stage(&self) -> PeerStage {
-        match self.octets[0] {
+        match self.octets.0[0] {
             0 => PeerStage::Begin,
             1 => PeerStage::ChallengeResponseSent,
             2 => PeerStage::SuccessResponseSent,
@@ -99,12 +102,14 @@ impl Peer {
 
     /// The state, to be stored where secrets are kept.
     pub fn octets(&self) -> &[u8; Peer::OCTETS] {
-        &self.octets
+        &self.octets.0
     }
 
     /// A stored state. Any octets are some state; nothing tells one that was tampered with.
     pub fn from_octets(octets: [u8; Peer::OCTETS]) -> Peer {
-        Peer { octets }
+        Peer {
+            octets: Wiped(octets),
+        }
     }
 }
 

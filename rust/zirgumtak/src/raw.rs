@@ -2,7 +2,7 @@
 //!
 //! Each answers the word of `zirgumtak.h`: a number in bits 0 to 7, n in bits 8 to 31. A slice of
 //! another size than is due is answered 23. The rest of this crate fixes the sizes by type; these
-//! functions are for programs that hold states as octets, or that test the sizes.
+//! functions, public with the feature `raw`, are for programs that test the sizes.
 #![allow(unsafe_code)]
 
 /// The function of one line of the list below. Its arguments are taken one by one: what the safe

@@ -3,10 +3,12 @@
 use core::fmt;
 
 use crate::answer::{answer_of, Answer, Refusal};
+use crate::wiped::Wiped;
 use crate::{raw, Octets16};
 
 /// The stages of a server.
 #[derive(Clone, Copy, PartialEq, Eq, Debug)]
+#[non_exhaustive]
 pub enum ServerStage {
     /// Made, and not started yet.
     Begin,
@@ -24,10 +26,11 @@ pub enum ServerStage {
 
 /// The server of one conversation.
 ///
-/// The state is octets of a fixed layout (`zirgumtak.h`), and may be stored and brought back.
+/// The state is octets of a fixed layout (`zirgumtak.h`), and may be stored and brought back. It
+/// is wiped when it is dropped.
 #[derive(Clone)]
 pub struct Server {
-    octets: [u8; Server::OCTETS],
+    octets: Wiped<{ Server::OCTETS }>,
 }
 
 impl Server {
@@ -43,12 +46,11 @@ impl Server {
     pub const REPLY_ROOM: usize = 282;
 
     /// A server in BEGIN.
-    #[allow(clippy::new_without_default)]
     pub fn new() -> Server {
-        let mut octets = [0; Server::OCTETS];
-        let word = raw::server_new(&mut octets);
+        let mut server = Server::from_octets([0; Server::OCTETS]);
+        let word = raw::server_new(&mut server.octets.0);
         debug_assert_eq!(word, 0, "a state of the right size is made");
-        Server { octets }
+        server
     }
 
     /// Writes the Challenge under the first Identifier. The challenge is to be random.
@@ -64,7 +66,7 @@ impl Server {
         reply: &'b mut [u8],
     ) -> Result<Answer<'b>, Refusal> {
         let word = raw::server_start(
-            &mut self.octets,
+            &mut self.octets.0,
             identifier,
             challenge,
             name,
@@ -85,19 +87,19 @@ impl Server {
         fresh: &Octets16,
         reply: &'b mut [u8],
     ) -> Result<Answer<'b>, Refusal> {
-        let word = raw::server_packet(&mut self.octets, packet, table, fresh, reply);
+        let word = raw::server_packet(&mut self.octets.0, packet, table, fresh, reply);
         answer_of(word, reply)
     }
 
     /// Writes the outstanding request again, for a peer that does not answer; 19, 20.
-    pub fn resend<'b>(&mut self, reply: &'b mut [u8]) -> Result<Answer<'b>, Refusal> {
-        let word = raw::server_resend(&self.octets, reply);
+    pub fn resend<'b>(&self, reply: &'b mut [u8]) -> Result<Answer<'b>, Refusal> {
+        let word = raw::server_resend(&self.octets.0, reply);
         answer_of(word, reply)
     }
 
     /// The stage, octet 0 of the state.
     pub fn stage(&self) -> ServerStage {
-        match self.octets[0] {
+        match self.octets.0[0] {
             0 => ServerStage::Begin,
             1 => ServerStage::ChallengeSent,
             2 => ServerStage::SuccessRequestSent,
@@ -109,12 +111,20 @@ impl Server {
 
     /// The state, to be stored.
     pub fn octets(&self) -> &[u8; Server::OCTETS] {
-        &self.octets
+        &self.octets.0
     }
 
     /// A stored state. Any octets are some state; nothing tells one that was tampered with.
     pub fn from_octets(octets: [u8; Server::OCTETS]) -> Server {
-        Server { octets }
+        Server {
+            octets: Wiped(octets),
+        }
+    }
+}
+
+impl Default for Server {
+    fn default() -> Server {
+        Server::new()
     }
 }
 

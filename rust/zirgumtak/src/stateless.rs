@@ -1,9 +1,7 @@
-//! What needs no state: checks of packets and tables, digests, cipher, response arithmetic.
-
-use core::fmt;
+//! What needs no state: the check of a packet, digests, cipher, response arithmetic.
 
 use crate::answer::{done_of, Refusal};
-use crate::{raw, Octets16};
+use crate::{raw, Octets16, PasswordHash};
 
 /// The end for which a packet is read.
 #[derive(Clone, Copy, PartialEq, Eq, Debug)]
@@ -21,47 +19,6 @@ pub fn read(end: End, packet: &[u8]) -> Result<(), Refusal> {
         End::Server => 1,
     };
     done_of(raw::read(end, packet))
-}
-
-/// Whether an account table is well formed; else [`Refusal::BadTable`].
-pub fn accounts_check(table: &[u8]) -> Result<(), Refusal> {
-    done_of(raw::accounts_check(table))
-}
-
-/// What is kept of a password: MD4 of its UTF-16 units. Whoever has it can log in.
-#[derive(Clone, Copy, PartialEq, Eq)]
-pub struct PasswordHash(pub Octets16);
-
-impl PasswordHash {
-    /// The hash of a password; [`Refusal::BadArgument`] over 256 UTF-16 units.
-    pub fn of(password: &str) -> Result<PasswordHash, Refusal> {
-        hash_units(password.encode_utf16())
-    }
-
-    /// The hash of UTF-16 units, not necessarily of a text; [`Refusal::BadArgument`] over 256.
-    pub fn of_units(units: &[u16]) -> Result<PasswordHash, Refusal> {
-        hash_units(units.iter().copied())
-    }
-}
-
-/// Not the octets: they are a secret.
-impl fmt::Debug for PasswordHash {
-    fn fmt(&self, out: &mut fmt::Formatter<'_>) -> fmt::Result {
-        out.write_str("PasswordHash(..)")
-    }
-}
-
-/// There is room for one unit more than is allowed, so that the archive refuses it.
-fn hash_units(units: impl Iterator<Item = u16>) -> Result<PasswordHash, Refusal> {
-    let mut octets = [0; 2 * 257];
-    let mut length = 0;
-    for (pair, unit) in octets.chunks_exact_mut(2).zip(units) {
-        pair.copy_from_slice(&unit.to_le_bytes());
-        length += 2;
-    }
-    let mut hash = [0; 16];
-    done_of(raw::password_hash(&octets[..length], &mut hash))?;
-    Ok(PasswordHash(hash))
 }
 
 /// MD4; [`Refusal::BadArgument`] over 65,536 octets.
@@ -99,7 +56,7 @@ pub fn nt_response(
         authenticator_challenge,
         peer_challenge,
         user,
-        &hash.0,
+        hash.octets(),
         &mut out,
     ))?;
     Ok(out)
@@ -116,7 +73,7 @@ pub fn authenticator(
 ) -> Result<[u8; 20], Refusal> {
     let mut out = [0; 20];
     done_of(raw::authenticator(
-        &hash.0,
+        hash.octets(),
         nt_response,
         peer_challenge,
         authenticator_challenge,
