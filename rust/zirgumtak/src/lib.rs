@@ -8,12 +8,13 @@
 //! A login, both ends in memory:
 //!
 //! ```
-//! use zirgumtak::{Answer, PasswordHash, Peer, Refusal, Server};
+//! use zirgumtak::{AccountCode, Answer, PasswordHash, Peer, Refusal, Server, TableBuilder};
 //!
 //! fn main() -> Result<(), Refusal> {
 //!     let hash = PasswordHash::of("clientPass")?;
-//!     // One account: length 26, kind 1, code 0, hash, name.
-//!     let table = [&[26, 0, 1, 0, 0, 0][..], hash.octets(), b"User"].concat();
+//!     let mut room = [0; 64];
+//!     let mut accounts = TableBuilder::new(&mut room);
+//!     accounts.append(AccountCode::MayLogIn, b"User", &hash)?;
 //!
 //!     let mut peer = Peer::new(br"CAMP\User", &hash)?;
 //!     let mut server = Server::new();
@@ -24,7 +25,7 @@
 //!     let mut request = server.start(7, &challenge, b"depot", 3, &mut to_peer)?;
 //!     while let Answer::Written(packet) = request {
 //!         let reply = peer.step(packet, &random, &mut to_server)?;
-//!         request = server.packet(reply.packet(), &table, &fresh, &mut to_peer)?;
+//!         request = server.packet(reply.packet(), accounts.table(), &fresh, &mut to_peer)?;
 //!     }
 //!     assert_eq!(request, Answer::Authenticated(&[3, 8, 0, 4]));
 //!     let last = peer.step(request.packet(), &random, &mut to_server)?;
@@ -42,8 +43,9 @@
 //!
 //! # Versions
 //!
-//! Numbers may come to answers, refusals and stages, so a `match` of them needs a last arm for
-//! all others. A number that this crate does not know is a panic.
+//! Numbers may come to answers, refusals, stages and account codes, so a `match` of them needs a
+//! last arm for all others. The archive is to have this crate's version ([`version`]): a number
+//! that this crate does not know is a panic.
 //!
 //! # Features
 //!
@@ -74,8 +76,8 @@ pub use answer::{Answer, Refusal};
 pub use password::PasswordHash;
 pub use peer::{Peer, PeerStage};
 pub use server::{Server, ServerStage};
-pub use stateless::{authenticator, des, md4, nt_response, read, sha1, End};
-pub use table::accounts_check;
+pub use stateless::{authenticator, des, md4, nt_response, read, sha1, version, End};
+pub use table::{accounts_check, AccountCode, TableBuilder};
 
 /// Hashes, challenges and random octets have 16 octets.
 pub type Octets16 = [u8; 16];

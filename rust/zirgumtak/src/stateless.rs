@@ -3,6 +3,11 @@
 use crate::answer::{done_of, Refusal};
 use crate::{raw, Octets16, PasswordHash};
 
+/// The archive's version: major * 10000 + minor * 100 + patch. It is to be this crate's.
+pub fn version() -> u64 {
+    raw::version()
+}
+
 /// The end for which a packet is read.
 #[derive(Clone, Copy, PartialEq, Eq, Debug)]
 pub enum End {

@@ -49,4 +49,10 @@ fn secrets_are_not_shown() {
     let peer = Peer::new(b"User", &hash).unwrap();
     assert_eq!(format!("{hash:?}"), "PasswordHash(..)");
     assert_eq!(format!("{peer:?}"), "Peer { stage: Begin, .. }");
+    let mut room = [0; 64];
+    let mut accounts = TableBuilder::new(&mut room);
+    accounts
+        .append(AccountCode::MayLogIn, b"User", &hash)
+        .unwrap();
+    assert_eq!(format!("{accounts:?}"), "TableBuilder { used: 26, .. }");
 }
