@@ -7,17 +7,24 @@ use native.Mathlib.Numerals.{add-one}
 use native.Mathlib.Omega.{arith}
 use lib.ListN.{length, getD, take, drop, length-append, length-take, drop-of-length-le}
 use lib.Seq.{drop-cons, take-append-seam}
-use lib.Dec.{ltb}
+use lib.Dec.{ltb, eqb}
 use borrow.Author.Needs.{needs}
-use borrow.Author.Tests.{lt-ltb, le-ltb}
+use borrow.Author.Tests.{lt-ltb, le-ltb, eq-eqb, ne-eqb}
 use Rattle.octets.specs.Lists.{Appended}
 use Rattle.octets.proofs.Exits.{pick-true, pick-false, arms}
 use Rattle.octets.proofs.Appends.{Laid, laid-more}
-use Rattle.console.specs.Inner.{escaped, shownAs, visible, Fronts}
+use Rattle.console.specs.Inner.{escaped, shownPlain, shownAs, visible, Fronts}
 
-length-shown : (x : ℕ) → length (shownAs x) ≤ 4
+abbrev Short : List ℕ → Type 0
+Short l = length l ≤ 4
+
+short-plain : (x : ℕ) → Short (shownPlain x)
+unfolding shownPlain
+short-plain x = arms Short (eqb x 34) (omega arith) (arms Short (eqb x 92) (omega arith) (omega arith))
+
+length-shown : (x : ℕ) → Short (shownAs x)
 unfolding shownAs
-length-shown x = arms (λ (l : List ℕ). length l ≤ 4) (ltb x 32) (omega arith) (arms (λ (l : List ℕ). length l ≤ 4) (ltb x 127) (omega arith) (omega arith))
+length-shown x = arms Short (ltb x 32) (omega arith) (arms Short (ltb x 127) (short-plain x) (omega arith))
 
 -- ---- one octet
 pub shown-low : (x n : ℕ) (l : List ℕ) → x < 32 → l ≡ escaped x → n ≡ 4 → Fronts (shownAs x) l n
@@ -26,11 +33,29 @@ shown-low x n l h e k =
     let q : shownAs x ≡ escaped x = pick-true _ _ _ (lt-ltb _ _ h) in
     rw (q, e, k) (record { front = refl; count = refl })
 
-pub shown-plain : (x : ℕ) → 32 ≤ x → x < 127 → Fronts (shownAs x) (x ∷ 0 ∷ 0 ∷ 0 ∷ []) 1
-unfolding shownAs
-shown-plain x h k =
-    let q : shownAs x ≡ x ∷ [] = pick-false _ _ _ (le-ltb _ _ h) ∙ pick-true _ _ _ (lt-ltb _ _ k) in
+pub shown-quote : (x : ℕ) → x ≡ 34 → Fronts (shownPlain x) (92 ∷ x ∷ 0 ∷ 0 ∷ []) 2
+unfolding shownPlain
+shown-quote x h =
+    let q : shownPlain x ≡ 92 ∷ x ∷ [] = pick-true _ _ _ (eq-eqb _ _ h) in
     rw q (record { front = refl; count = refl })
+
+pub shown-backslash : (x : ℕ) → (x ≡ 34 → ⊥) → x ≡ 92 → Fronts (shownPlain x) (92 ∷ x ∷ 0 ∷ 0 ∷ []) 2
+unfolding shownPlain
+shown-backslash x h k =
+    let q : shownPlain x ≡ 92 ∷ x ∷ [] = pick-false _ _ _ (ne-eqb _ _ h) ∙ pick-true _ _ _ (eq-eqb _ _ k) in
+    rw q (record { front = refl; count = refl })
+
+pub shown-bare : (x : ℕ) → (x ≡ 34 → ⊥) → (x ≡ 92 → ⊥) → Fronts (shownPlain x) (x ∷ 0 ∷ 0 ∷ 0 ∷ []) 1
+unfolding shownPlain
+shown-bare x h k =
+    let q : shownPlain x ≡ x ∷ [] = pick-false _ _ _ (ne-eqb _ _ h) ∙ pick-false _ _ _ (ne-eqb _ _ k) in
+    rw q (record { front = refl; count = refl })
+
+pub shown-plain : (x n : ℕ) (l : List ℕ) → 32 ≤ x → x < 127 → Fronts (shownPlain x) l n → Fronts (shownAs x) l n
+unfolding shownAs
+shown-plain x n l h k p =
+    let q : shownAs x ≡ shownPlain x = pick-false _ _ _ (le-ltb _ _ h) ∙ pick-true _ _ _ (lt-ltb _ _ k) in
+    rw q p
 
 pub shown-high : (x n : ℕ) (l : List ℕ) → 32 ≤ x → 127 ≤ x → l ≡ escaped x → n ≡ 4 → Fronts (shownAs x) l n
 unfolding shownAs
@@ -67,4 +92,4 @@ visible-done s q old l n i p h =
 pub piece-fits : (r s d : List ℕ) (i : ℕ) → r ≡ take 64 (drop i s) → length d ≡ 256 → 4 * length r ≤ length d
 piece-fits r s d i e h = omega (arith, ap length e, length-take 64 (drop i s), min-le-left 64 (length (drop i s)))
 
-pub ruleset texts = (needs, visible-none, visible-more, visible-done, shown-low, shown-plain, shown-high, piece-fits)
+pub ruleset texts = (needs, visible-none, visible-more, visible-done, shown-quote, shown-backslash, shown-bare, shown-low, shown-plain, shown-high, piece-fits)

@@ -11,12 +11,16 @@ use Rattle.octets.specs.Octets.{hexAt}
 unfoldable pub spacedAt : List ℕ → ℕ → ℕ
 spacedAt s k = pick (eqb (k % 3) 2) 32 (hexAt s (k / 3 * 2 + k % 3))
 
--- ---- text: printable ASCII as it is, and any other octet as `\x` and two hex digits
+-- ---- text: printable ASCII as it is, but with a backslash before a quotation mark and a backslash, and any other octet as
+-- `\x` and two hex digits
 abbrev pub escaped : ℕ → List ℕ
 escaped x = 92 ∷ 120 ∷ hexAt (x ∷ []) 0 ∷ hexAt (x ∷ []) 1 ∷ []
 
+unfoldable pub shownPlain : ℕ → List ℕ
+shownPlain x = pick (eqb x 34) (92 ∷ x ∷ []) (pick (eqb x 92) (92 ∷ x ∷ []) (x ∷ []))
+
 unfoldable pub shownAs : ℕ → List ℕ
-shownAs x = pick (ltb x 32) (escaped x) (pick (ltb x 127) (x ∷ []) (escaped x))
+shownAs x = pick (ltb x 32) (escaped x) (pick (ltb x 127) (shownPlain x) (escaped x))
 
 unfoldable pub visible : List ℕ → List ℕ
 visible [] = []

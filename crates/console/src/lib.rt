@@ -4,10 +4,11 @@ ghost use Prim.Native.Nat.{_*_, _≤_};
 ghost use lib.ListN.{length};
 ghost use Rattle.octets.specs.Lists.{cells, Appended};
 ghost use Rattle.console.specs.Reads.{Leaves};
-ghost use Rattle.console.specs.Inner.{spacedAt, escaped, shownAs, visible, Fronts};
+ghost use Rattle.console.specs.Inner.{spacedAt, escaped, shownPlain, shownAs, visible, Fronts};
+use libc::STDERR_FILENO;
 use libc::STDOUT_FILENO;
 
-// A file as it was read: not opened, not read, or so many octets at the front of a buffer.
+// A file as it was read: not opened, not read whole, or so many octets at the front of a buffer.
 pub enum File {
     Unopened,
     Unread,
@@ -16,29 +17,78 @@ pub enum File {
 
 // ---- reading
 
-fn read_open(fd: i32, buffer: &mut [u8]) -> File
-    ensures { λ r. ⌜ Leaves r (now (buffer .entry)) (now (buffer .exit)) ⌝ }
-{
-    let got = libc::read(fd, buffer);
-    if got < 0 {
-        return File::Unread;
-    }
-    let n = io::count(got, buffer);
-    let m = io::read_full(fd, &mut buffer[n..]);
-    File::Read(n + m)
+// What could not be done, and the cause that errno has.
+fn blame(what: &[u8], not: &[u8]) {
+    complain(what);
+    os::fail(not);
 }
 
-// The file at a path, or as much of it as the buffer takes.
-pub fn read(path: &[u8], buffer: &mut [u8]) -> File
-    ensures { λ r. ⌜ (now (path .exit) ≡ now (path .entry)) × Leaves r (now (buffer .entry)) (now (buffer .exit)) ⌝ }
+// Reads to the end of the file, or until the buffer is full. A read that fails is not the end: where it was a signal that
+// interrupted it, too, the file counts as unread.
+fn read_open(what: &[u8], fd: i32, buffer: &mut [u8]) -> File
+    ensures { λ r. ⌜ Leaves r (now (buffer .entry)) (now (buffer .exit)) ⌝ }
+{
+    let mut n = 0;
+    while n < buffer.len() {
+        let got = libc::read(fd, &mut buffer[n..]);
+        if got < 0 {
+            blame(what, b" cannot be read");
+            return File::Unread;
+        }
+        let more = io::count(got, &buffer[n..]);
+        if more == 0 {
+            return File::Read(n);
+        }
+        n += more;
+    }
+    File::Read(n)
+}
+
+// The file at a path, or as much of it as the buffer takes. Where it cannot be read so far, says so on standard error, with
+// `what` for its name and with the cause.
+pub fn read(what: &[u8], path: &[u8], buffer: &mut [u8]) -> File
+    ensures { λ r. ⌜ (now (what .exit) ≡ now (what .entry)) × (now (path .exit) ≡ now (path .entry)) × Leaves r (now (buffer .entry)) (now (buffer .exit)) ⌝ }
 {
     let fd = os::open_read(path);
     if fd < 0 {
+        blame(what, b" cannot be opened");
         return File::Unopened;
     }
-    let file = read_open(fd, buffer);
+    let file = read_open(what, fd, buffer);
     libc::close(fd);
     file
+}
+
+// ---- complaints, on standard error
+
+// Words as they are.
+pub fn complain(text: &[u8])
+    ensures { λ _. ⌜ now (text .exit) ≡ now (text .entry) ⌝ }
+{
+    io::write_all(STDERR_FILENO, text);
+}
+
+// A number in decimal.
+pub fn complain_number(n: u64)
+    ensures { λ r. ⌜ r ≡ tt ⌝ }
+{
+    io::print_decimal(STDERR_FILENO, n);
+}
+
+// ---- how a program ended: the last line of what it writes
+
+pub fn ended_well()
+    ensures { λ r. ⌜ r ≡ tt ⌝ }
+{
+    say(b"ok\n");
+}
+
+pub fn ended_badly(why: &[u8])
+    ensures { λ _. ⌜ now (why .exit) ≡ now (why .entry) ⌝ }
+{
+    say(b"failed: ");
+    say(why);
+    say(b"\n");
 }
 
 // ---- words and numbers
@@ -163,6 +213,28 @@ fn escape(x: u8) -> Shown
     }
 }
 
+// A printable octet: a quotation mark and a backslash have a backslash before them.
+fn show_plain(x: u8) -> Shown
+    ensures { λ r. ⌜ Fronts (shownPlain x) (r .text) (r .len) ⌝ }
+{
+    if x == 34 {
+        return Shown {
+            text: [92, x, 0, 0],
+            len: 2,
+        };
+    }
+    if x == 92 {
+        return Shown {
+            text: [92, x, 0, 0],
+            len: 2,
+        };
+    }
+    Shown {
+        text: [x, 0, 0, 0],
+        len: 1,
+    }
+}
+
 fn show_octet(x: u8) -> Shown
     ensures { λ r. ⌜ Fronts (shownAs x) (r .text) (r .len) ⌝ }
 {
@@ -170,10 +242,7 @@ fn show_octet(x: u8) -> Shown
         return escape(x);
     }
     if x < 127 {
-        return Shown {
-            text: [x, 0, 0, 0],
-            len: 1,
-        };
+        return show_plain(x);
     }
     escape(x)
 }
@@ -202,7 +271,7 @@ fn show_into(dst: &mut [u8], s: &[u8]) -> usize
     n
 }
 
-// Text in quotation marks, with nothing in it that a terminal would obey.
+// Text in quotation marks, with nothing in it that a terminal would obey or that reads as the end of it.
 pub fn quoted(s: &[u8])
     ensures { λ _. ⌜ now (s .exit) ≡ now (s .entry) ⌝ }
 {

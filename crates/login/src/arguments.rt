@@ -4,23 +4,21 @@ use super::PEER_CHALLENGE;
 use super::talk;
 use answer::Answer;
 use console::File;
-use password::Spelling;
+use roster::Line;
 use talk::Login;
 
 // What is wrong with an argument, and a hint.
 pub(crate) fn complain(what: &[u8]) {
-    console::say(b"login: ");
-    console::say(what);
-    console::say(b"; `login help` says how to call it\n");
+    console::complain(b"login: ");
+    console::complain(what);
+    console::complain(b"; `login help` says how to call it\n");
+    console::ended_badly(b"bad arguments");
 }
 
 fn is_written(a: Answer) -> bool {
     match a {
         Answer::Written => true,
-        Answer::NeedsCredentials => false,
-        Answer::Authenticated => false,
-        Answer::Ended => false,
-        Answer::Refused(_) => false,
+        _ => false,
     }
 }
 
@@ -140,13 +138,14 @@ fn with_name(table: &[u8], name: &[u8], count: usize) {
         complain(b"PASSWORD is too long");
         return;
     }
-    let made = password::hash(&text[..n]);
-    let spelling = made.spelling;
+    let made = roster::secret_of(&text[..n]);
+    let line = made.line;
     let hash = made.hash;
-    match spelling {
-        Spelling::Good => with_hash(table, name, hash, count),
-        Spelling::NotUtf8 => complain(b"PASSWORD is not UTF-8"),
-        Spelling::TooLong => complain(b"PASSWORD has more than 256 UTF-16 units"),
+    match line {
+        Line::Account => with_hash(table, name, hash, count),
+        Line::BadHash => complain(b"PASSWORD begins with hash=, and 32 hex digits do not follow"),
+        Line::LongPassword => complain(b"PASSWORD has more than 256 UTF-16 units"),
+        _ => complain(b"PASSWORD is not UTF-8"),
     }
 }
 
@@ -170,7 +169,8 @@ fn with_table(table: &[u8], count: usize) {
 
 fn with_octets(table: &[u8], count: usize) {
     if !is_written(accounts::check(table)) {
-        complain(b"TABLE is not a well-formed account table");
+        console::complain(b"login: TABLE is not a well-formed account table\n");
+        console::ended_badly(b"nothing was played");
         return;
     }
     with_table(table, count);
@@ -179,11 +179,10 @@ fn with_octets(table: &[u8], count: usize) {
 // One octet more than a table has at most, so that a longer file is seen to be longer.
 fn with_path(path: &[u8], count: usize) {
     let mut table = [0u8; 65537];
-    let file = console::read(path, &mut table);
+    let file = console::read(b"login: TABLE", path, &mut table);
     match file {
-        File::Unopened => complain(b"TABLE cannot be opened"),
-        File::Unread => complain(b"TABLE cannot be read"),
         File::Read(n) => with_octets(octets::part(&table, 0, n), count),
+        _ => console::ended_badly(b"nothing was played"),
     }
 }
 

@@ -54,7 +54,7 @@ fn example() {
     );
     console::say(b"and the authenticator string S=407A5589115FD0D6209F510FE9C04566932CDA56.\n");
     console::say(b"`login help` says how to play other logins.\n\n");
-    let made = password::hash(b"clientPass");
+    let made = roster::secret_of(b"clientPass");
     let hash = made.hash;
     let mut table = [0u8; 278];
     let n = accounts::append_account(&mut table, 0, 0, hash, b"User");
@@ -71,38 +71,49 @@ fn example() {
 }
 
 fn help() {
-    console::say(b"login\n    Plays the example of RFC 2759.\n\n");
-    console::say(b"login TABLE NAME PASSWORD [RETRIES]\n");
-    console::say(b"login TABLE NAME PASSWORD CHALLENGE PEER-CHALLENGE [RETRIES]\n");
     console::say(
-        b"    Plays a login of NAME with PASSWORD, between a peer and a server in memory, and\n",
+        b"login
+    Plays the example of RFC 2759.
+
+login TABLE NAME PASSWORD [RETRIES]
+login TABLE NAME PASSWORD CHALLENGE PEER-CHALLENGE [RETRIES]
+    Plays a login of NAME with PASSWORD, between a peer and a server in memory, and
+    shows each packet. Nothing is sent.
+
+    TABLE           the file of the server's account table; `table` makes one
+    NAME            1 to 256 octets; the user is what follows a backslash, if any
+    PASSWORD        UTF-8, up to 256 UTF-16 units, or hash= and 32 hex digits; on a
+                    shared machine others can read it in the list of processes
+    CHALLENGE       the server's, 32 hex digits; else the published one
+    PEER-CHALLENGE  the peer's, 32 hex digits; else the published one
+    RETRIES         how often the server allows a retry, 0 to 10; else 0
+
+    At a retry the peer gives the same name and password again. Each further
+    challenge is the one before with its last octet counted up. Challenges that can
+    be foreseen are for show only: in use each one has to be random.
+
+    The last line says ok where the peer is logged in, and else failed: and why; what
+    is wrong is said on standard error. `tools/login` gives that as an exit status.
+",
     );
-    console::say(b"    shows each packet. Nothing is sent.\n\n");
-    console::say(
-        b"    TABLE           the file of the server's account table; `table` makes one\n",
-    );
-    console::say(
-        b"    NAME            1 to 256 octets; the user is what follows a backslash, if any\n",
-    );
-    console::say(
-        b"    PASSWORD        UTF-8, up to 256 UTF-16 units; on a shared machine others can\n",
-    );
-    console::say(b"                    read it in the list of processes\n");
-    console::say(b"    CHALLENGE       the server's, 32 hex digits; else the published one\n");
-    console::say(b"    PEER-CHALLENGE  the peer's, 32 hex digits; else the published one\n");
-    console::say(b"    RETRIES         how often the server allows a retry, 0 to 10; else 0\n\n");
-    console::say(b"    At a retry the peer gives the same name and password again. Each further\n");
-    console::say(
-        b"    challenge is the one before with its last octet counted up. Challenges that can\n",
-    );
-    console::say(b"    be foreseen are for show only: in use each one has to be random.\n");
+    console::ended_well();
 }
 
-// One argument: the word help.
+fn is_help(word: &[u8]) -> bool {
+    if octets::equal(word, b"help") {
+        return true;
+    }
+    if octets::equal(word, b"--help") {
+        return true;
+    }
+    octets::equal(word, b"-h")
+}
+
+// One argument: a word for help.
 fn one_word() {
     let mut word = [0u8; 8];
     let n = os::arg(1, &mut word);
-    if octets::equal(octets::part(&word, 0, n), b"help") {
+    if is_help(octets::part(&word, 0, n)) {
         help();
         return;
     }

@@ -36,11 +36,8 @@ fn counted_up(challenge: [u8; 16], turn: u8) -> [u8; 16]
 
 fn needs_credentials(a: Answer) -> bool {
     match a {
-        Answer::Written => false,
         Answer::NeedsCredentials => true,
-        Answer::Authenticated => false,
-        Answer::Ended => false,
-        Answer::Refused(_) => false,
+        _ => false,
     }
 }
 
@@ -178,31 +175,33 @@ fn is_in(ends: Ends) -> bool {
     let peer = ends.peer;
     let stage = peer.stage;
     match stage {
-        peer::Stage::Begin => false,
-        peer::Stage::ChallengeResponseSent => false,
-        peer::Stage::SuccessResponseSent => false,
-        peer::Stage::FailureResponseSent => false,
-        peer::Stage::Waiting => false,
         peer::Stage::Success => true,
-        peer::Stage::Failed => false,
+        _ => false,
     }
 }
 
-fn over(ends: Ends) {
+fn tell_stages(ends: Ends) {
     let peer = ends.peer;
     let server = ends.server;
     let peer_stage = peer.stage;
     let server_stage = server.stage;
-    if is_in(ends) {
-        console::say(b"\nLogged in: ");
-    } else {
-        console::say(b"\nNot logged in: ");
-    }
     console::say(b"peer ");
     words::peer_stage(peer_stage);
     console::say(b", server ");
     words::server_stage(server_stage);
     console::say(b".\n");
+}
+
+fn over(ends: Ends) {
+    if is_in(ends) {
+        console::say(b"\nLogged in: ");
+        tell_stages(ends);
+        console::ended_well();
+        return;
+    }
+    console::say(b"\nNot logged in: ");
+    tell_stages(ends);
+    console::ended_badly(b"not logged in");
 }
 
 // Twenty turns are more than any login takes.

@@ -23,9 +23,9 @@ pub enum Line {
 }
 
 // A password's hash, or what is wrong with the password.
-struct Secret {
-    line: Line,
-    hash: [u8; 16],
+pub struct Secret {
+    pub line: Line,
+    pub hash: [u8; 16],
 }
 
 // What a line says. The name is the line's first octets.
@@ -66,14 +66,16 @@ fn place(s: &[u8], x: u8) -> usize
     i
 }
 
-fn field_before(s: &[u8], x: u8) -> &[u8]
+// What stands before the first x, or all of s.
+pub fn field_before(s: &[u8], x: u8) -> &[u8]
     ensures { λ r. ⌜ now r ≡ before x (now (s .entry)) ⌝ }
 {
     let n = place(s, x);
     octets::part(s, 0, n)
 }
 
-fn field_after(s: &[u8], x: u8) -> &[u8]
+// What stands after the first x, if it is there.
+pub fn field_after(s: &[u8], x: u8) -> &[u8]
     ensures { λ r. ⌜ now r ≡ after x (now (s .entry)) ⌝ }
 {
     let n = place(s, x);
@@ -88,7 +90,7 @@ fn has_octet(s: &[u8], x: u8) -> bool
 }
 
 // A line without the carriage return at its end.
-fn trim(s: &[u8]) -> &[u8]
+pub fn trim(s: &[u8]) -> &[u8]
     ensures { λ r. ⌜ now r ≡ trimmed (now (s .entry)) ⌝ }
 {
     if s.len() == 0 {
@@ -150,7 +152,7 @@ fn spelt_as(spelling: Spelling, hash: [u8; 16]) -> Secret
 }
 
 // `hash=` and 32 hex digits, or a password.
-fn secret_of(s: &[u8]) -> Secret
+pub fn secret_of(s: &[u8]) -> Secret
     ensures { λ r. ⌜ r ≡ secretOf (now (s .entry)) ⌝ }
 {
     if octets::stands_at(s, 0, b"hash=") {
@@ -249,7 +251,8 @@ pub fn entry_of(s: &[u8]) -> Entry
     entry_with(s, n)
 }
 
-fn is_account(line: Line) -> bool
+// Whether a line is an account.
+pub fn is_account(line: Line) -> bool
     ensures { λ r. ⌜ r ≡ isAccount line ⌝ }
 {
     match line {

@@ -62,7 +62,7 @@ fn count(n: usize) {
     console::say(b" accounts, ");
 }
 
-// The accounts of a well-formed table.
+// The accounts of a well-formed table, and that all went well.
 pub(crate) fn rows(table: &[u8], hashes: bool) {
     let mut n = 0;
     let mut at = 0;
@@ -75,26 +75,28 @@ pub(crate) fn rows(table: &[u8], hashes: bool) {
     count(n);
     console::number(table.len() as u64);
     console::say(b" octets\n");
+    console::ended_well();
+}
+
+fn malformed() {
+    console::complain(b"table: TABLE is not a well-formed account table\n");
+    console::ended_badly(b"nothing was listed");
 }
 
 fn check(table: &[u8], hashes: bool) {
     let answer = accounts::check(table);
     match answer {
         Answer::Written => rows(table, hashes),
-        Answer::NeedsCredentials => console::say(b""),
-        Answer::Authenticated => console::say(b""),
-        Answer::Ended => console::say(b""),
-        Answer::Refused(_) => console::say(b"table: TABLE is not a well-formed account table\n"),
+        _ => malformed(),
     }
 }
 
 // One octet more than a table has at most, so that a longer file is seen to be longer.
 pub(crate) fn list(path: &[u8], hashes: bool) {
     let mut table = [0u8; 65537];
-    let file = console::read(path, &mut table);
+    let file = console::read(b"table: TABLE", path, &mut table);
     match file {
-        File::Unopened => console::say(b"table: TABLE cannot be opened\n"),
-        File::Unread => console::say(b"table: TABLE cannot be read\n"),
         File::Read(n) => check(octets::part(&table, 0, n), hashes),
+        _ => console::ended_badly(b"nothing was listed"),
     }
 }

@@ -9,6 +9,7 @@ show-octet-spec =
     (tie.spec
     (λ c κs. search needs)
     (λ c. search texts)
+    (λ c κs. search needs)
     (λ c. search texts)
     (λ c κs. search needs)
     (λ c. search texts))
