@@ -8,11 +8,11 @@ use mathlib.Core.Bool.{Bool, true, false, not}
 use lib.ListN.{length, take, drop, length-append}
 use lib.Seq.{drop-at, drop-append-add, take-append-seam, length-take-le}
 use lib.Dec.{ltb}
-use borrow.Author.Tests.{ltb-true, ltb-false, not-true, not-false, eq-eqb}
+use borrow.Author.Tests.{ltb-true, ltb-false, lt-ltb, le-ltb, not-true, not-false, eq-eqb}
 use Rattle.octets.specs.Choice.{pick}
 use Rattle.octets.specs.Lists.{over, part}
 use Rattle.octets.specs.Octets.{same, numberAt}
-use Rattle.octets.proofs.Exits.{pick-true, picked}
+use Rattle.octets.proofs.Exits.{pick-true, pick-false, picked}
 use Rattle.octets.proofs.Scans.{same-refl}
 use Rattle.answer.specs.Outcome.{Outcome, outcome, refused, fitting, Does}
 use Rattle.answer.specs.Sizes.{maxName}
@@ -20,7 +20,7 @@ use Rattle.accounts.specs.Records.{kindOf, records}
 use Rattle.accounts.specs.Accounts.{codeOf, hashOf, recordName, isCode, wellFormed, isAccountOf, Placed, placed, firstFrom, accountOf, recordOf, absent, account, lookupOf}
 use Rattle.accounts.specs.Account.{accountHead, accountRecord, recordFor, maxTable, grown, appendOf, appendIn}
 use Rattle.accounts.specs.Table.{none, more, IsGood}
-use Rattle.accounts.specs.Promises.{AddedFound, AddedHash, Appends, past, malformed, no-code, long-name, no-table, no-room, appends, AppendAnswers, Appending, AppendedFormed, AppendedFound, AppendedHash}
+use Rattle.accounts.specs.Promises.{AddedFound, AddedHash, Appends, past, malformed, no-code, long-name, no-table, no-room, appends, AppendsExact, Appending, AppendedFormed, AppendedFound, AppendedHash}
 use Rattle.accounts.proofs.Tables.{so-table, table-so}
 use Rattle.accounts.proofs.Joined.{further, joined-formed, joined-searched, empty-formed}
 use Rattle.accounts.proofs.Laying.{length-account}
@@ -114,9 +114,9 @@ fitted : (P : Outcome (Unit {0}) → Type 0) (room : ℕ) (o : Outcome (Unit {0}
 unfolding fitting
 fitted P room o f g = picked P (ltb room (length (o .octets))) (λ e. f (ltb-true _ _ e)) (λ e. g (ltb-false _ _ e))
 
-pub append-answers : AppendAnswers
+answers : (d : List ℕ) (used code : ℕ) (hash name : List ℕ) → Appends d used code hash name (appendIn d used code hash name)
 unfolding appendIn appendOf grown
-append-answers d used code hash name =
+answers d used code hash name =
     picked P (ltb (length d) used) (λ e. past (ltb-true _ _ e))
     (λ h.
     picked P _ (λ w. malformed (ltb-false _ _ h) (not-true _ w))
@@ -140,6 +140,29 @@ append-answers d used code hash name =
     fits : Appending d used code name → P (fitting (length d) tt (fitting maxTable tt (outcome 0 q tt)))
     fits a = fitted (λ (o : Outcome (Unit {0})). P (fitting (length d) tt o)) maxTable (outcome 0 q tt) (λ k. fitted P (length d) (refused 20 tt) (λ z. absurd (omega arith)) (λ z. no-table a k)) (λ k. small a k)
 
+-- and each comes in one way
+module _ (d : List ℕ) (used code : ℕ) (hash name : List ℕ) where
+  abbrev longer : Outcome (Unit {0})
+  longer = outcome 0 (take used d ++ accountRecord code hash name) tt
+
+  on-grown : Appending d used code name → appendIn d used code hash name ≡ fitting (length d) tt (fitting maxTable tt longer)
+  unfolding appendIn appendOf grown
+  on-grown a =
+      pick-false _ _ _ (le-ltb _ _ (a .inside)) ∙ pick-false _ _ _ (ap not (a .formed)) ∙ pick-false _ _ _ (ap not (a .known)) ∙ pick-false _ _ _ (le-ltb _ _ (a .short))
+
+  only : (o : Outcome (Unit {0})) → Appends d used code hash name o → o ≡ appendIn d used code hash name
+  unfolding appendIn appendOf fitting
+  only o (past h) = sym (pick-true _ _ _ (lt-ltb _ _ h))
+  only o (malformed h w) = sym (pick-false _ _ _ (le-ltb _ _ h) ∙ pick-true _ _ _ (ap not w))
+  only o (no-code h w c) = sym (pick-false _ _ _ (le-ltb _ _ h) ∙ pick-false _ _ _ (ap not w) ∙ pick-true _ _ _ (ap not c))
+  only o (long-name h w c l) = sym (pick-false _ _ _ (le-ltb _ _ h) ∙ pick-false _ _ _ (ap not w) ∙ pick-false _ _ _ (ap not c) ∙ pick-true _ _ _ (lt-ltb _ _ l))
+  only o (no-table a l) = sym (on-grown a ∙ ap (fitting (length d) tt) (pick-true _ _ _ (lt-ltb _ _ l)) ∙ pick-false _ _ _ (le-ltb (length d) 0 (omega arith)))
+  only o (no-room a l m) = sym (on-grown a ∙ ap (fitting (length d) tt) (pick-false _ _ _ (le-ltb _ _ l)) ∙ pick-true _ _ _ (lt-ltb _ _ m))
+  only o (appends a l m) = sym (on-grown a ∙ ap (fitting (length d) tt) (pick-false _ _ _ (le-ltb _ _ l)) ∙ pick-false _ _ _ (le-ltb _ _ m))
+
+pub appends-exact : AppendsExact
+appends-exact d used code hash name = (answers d used code hash name, only d used code hash name)
+
 -- ---- a call that answered 0
 record Wrote (d l hash name : List ℕ) (used code n : ℕ) : Type 0 where
   args : Appending d used code name
@@ -147,7 +170,7 @@ record Wrote (d l hash name : List ℕ) (used code n : ℕ) : Type 0 where
   front : take n l ≡ take used d ++ accountRecord code hash name
 
 wrote : (d l hash name : List ℕ) (used code n : ℕ) → Does (appendIn d used code hash name) 0 n tt d l → Wrote d l hash name used code n
-wrote d l hash name used code n done = go (append-answers d used code hash name) done
+wrote d l hash name used code n done = go (answers d used code hash name) done
   where
     go : {o : Outcome (Unit {0})} → Appends d used code hash name o → Does o 0 n tt d l → Wrote d l hash name used code n
     go (past h) p = absurd (omega (arith, p .answered))

@@ -57,7 +57,7 @@ pub record Appending (buffer : List ℕ) (used code : ℕ) (name : List ℕ) : T
   pub known : isCode code ≡ true
   pub short : length name ≤ maxName
 
--- each answer where its condition holds and none before it does
+-- its answers: each where its condition holds and none before it does
 pub data Appends (buffer : List ℕ) (used code : ℕ) (hash name : List ℕ) : Outcome (Unit {0}) → Type 0 where
   past : length buffer < used → Appends buffer used code hash name (refused 23 tt)
   malformed : used ≤ length buffer → wellFormed (take used buffer) ≡ false → Appends buffer used code hash name (refused 21 tt)
@@ -69,8 +69,8 @@ pub data Appends (buffer : List ℕ) (used code : ℕ) (hash name : List ℕ) : 
   appends : Appending buffer used code name → length (take used buffer ++ accountRecord code hash name) ≤ maxTable → length (take used buffer ++ accountRecord code hash name) ≤ length buffer →
       Appends buffer used code hash name (outcome 0 (take used buffer ++ accountRecord code hash name) tt)
 
-abbrev pub AppendAnswers : Type 0
-AppendAnswers = (buffer : List ℕ) (used code : ℕ) (hash name : List ℕ) → Appends buffer used code hash name (appendIn buffer used code hash name)
+abbrev pub AppendsExact : Type 0
+AppendsExact = (buffer : List ℕ) (used code : ℕ) (hash name : List ℕ) → Exactly (Appends buffer used code hash name) (appendIn buffer used code hash name)
 
 -- a call that answered 0 and n made a table of n octets; before it the table had `used`. P tells of the two
 abbrev pub Always : (List ℕ → ℕ → List ℕ → List ℕ → List ℕ → Type 0) → Type 0

@@ -11,7 +11,7 @@ use Rattle.answer.specs.Outcome.{Told, Outcome}
 use Rattle.accounts.specs.Accounts.{checkNumber}
 use Rattle.accounts.specs.Account.{accountRecord}
 use Rattle.accounts.specs.Promises.{Appends, past, malformed, no-code, long-name, no-table, no-room, appends}
-use Rattle.accounts.proofs.Appending.{append-answers}
+use Rattle.accounts.proofs.Appending.{appends-exact}
 use Rattle.digest.specs.Md4.{md4Told}
 use Rattle.digest.specs.Sha1.{sha1Told}
 use Rattle.mschap.specs.Answers.{limited, passwordHashTold, ntResponseTold, authenticatorTold}
@@ -53,7 +53,7 @@ check-at table = arms (λ (k : ℕ). NumberAt (wordOf k 0)) _ (refusal 21 (omega
 append-at : (buffer : List ℕ) (used code : ℕ) (hash name : List ℕ) → WritesAt buffer (accountsAppendAt buffer used code hash name)
 unfolding accountsAppendAt wrote wordOf
 append-at buffer used code hash name =
-    arms (WritesAt buffer) (has 16 hash) (go (append-answers buffer used code hash name)) (promises.refuses 23 (omega arith, omega arith))
+    arms (WritesAt buffer) (has 16 hash) (go (appends-exact buffer used code hash name .0)) (promises.refuses 23 (omega arith, omega arith))
   where
     go : {o : Outcome (Unit {0})} → Appends buffer used code hash name o → WritesAt buffer (wrote o buffer)
     go (past h) = promises.refuses 23 (omega arith, omega arith)

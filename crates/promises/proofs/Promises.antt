@@ -17,7 +17,7 @@ use Rattle.writers.proofs.Trips.{writers-answer, writers-read-back}
 use Rattle.accounts.proofs.Tables.{tables-exact, checks-exact}
 use Rattle.accounts.proofs.Lookups.{lookups-exact}
 use Rattle.accounts.proofs.Answers.{found-apart}
-use Rattle.accounts.proofs.Appending.{added-found, added-hash, append-answers, appended-formed, appended-found, appended-hash}
+use Rattle.accounts.proofs.Appending.{added-found, added-hash, appends-exact, appended-formed, appended-found, appended-hash}
 use Rattle.verdict.proofs.Rightness.{verdicts-exact}
 use Rattle.peerlaws.proofs.Exact.{new-exact, step-exact, supply-exact, give-up-exact}
 use Rattle.peerlaws.proofs.Promises as peer
@@ -64,7 +64,7 @@ demand1 = record {
   check-answers = checks-exact;
   find-answers = lookups-exact;
   found-apart = found-apart;
-  append-answers = append-answers;
+  append-answers = appends-exact;
   peer-at = peer-answers-at;
   server-at = server-answers-at;
   stateless-at = stateless-answer;

@@ -9,7 +9,7 @@ use Rattle.mschap.specs.Promises.{UsersExact, ResponsesSized}
 use Rattle.packet.specs.Promises.{ReaderAnswers, RefusedExactly, ReadExactly, FormedReads, ReadsFormed, PaddingIgnored, ReadingTells, ReadRenumbered}
 use Rattle.packet.specs.Learned.{ReadAlike, ReadAlikeButForCase, WrittenReadsBack, SuccessReads, SuccessMessagesApart}
 use Rattle.writers.specs.Promises.{WritersAnswer, WritersReadBack}
-use Rattle.accounts.specs.Promises.{TablesExact, ChecksExact, LookupsExact, FoundApart, AddedFound, AddedHash, AppendAnswers, AppendedFormed, AppendedFound, AppendedHash}
+use Rattle.accounts.specs.Promises.{TablesExact, ChecksExact, LookupsExact, FoundApart, AddedFound, AddedHash, AppendsExact, AppendedFormed, AppendedFound, AppendedHash}
 use Rattle.verdict.specs.Promises.{VerdictsExact}
 use Rattle.peerlaws.specs.Exact.{NewExact, StepExact, SupplyExact, GiveUpExact}
 use Rattle.peerlaws.specs.Promises as peer
@@ -49,7 +49,7 @@ pub record Demand1 : Type 0 where
   pub check-answers : ChecksExact
   pub find-answers : LookupsExact
   pub found-apart : FoundApart
-  pub append-answers : AppendAnswers
+  pub append-answers : AppendsExact
   -- the same of every call at the boundary, whatever the sizes of the slices
   pub peer-at : PeerAnswersAt
   pub server-at : ServerAnswersAt
