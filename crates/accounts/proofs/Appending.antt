@@ -6,11 +6,10 @@ use mathlib.Core.Path.{_≡_, refl, sym, ap, _∙_}
 use mathlib.Core.List.{List, [], _∷_, _++_, append-nil, flatten}
 use mathlib.Core.Bool.{Bool, true, false, not}
 use lib.ListN.{length, take, drop, length-append}
-use lib.Seq.{drop-at, drop-append-add, take-append-seam, length-take-le}
+use lib.Seq.{drop-at, drop-append-add, take-append-seam}
 use lib.Dec.{ltb}
 use borrow.Author.Tests.{ltb-true, ltb-false, lt-ltb, le-ltb, not-true, not-false, eq-eqb}
 use Rattle.octets.specs.Choice.{pick}
-use Rattle.octets.specs.Lists.{over, part}
 use Rattle.octets.specs.Octets.{same, numberAt}
 use Rattle.octets.proofs.Exits.{pick-true, pick-false, picked}
 use Rattle.octets.proofs.Scans.{same-refl}
@@ -21,7 +20,7 @@ use Rattle.accounts.specs.Accounts.{codeOf, hashOf, recordName, isCode, 
 use Rattle.accounts.specs.Account.{accountHead, accountRecord, recordFor, maxTable, grown, appendOf, appendIn}
 use Rattle.accounts.specs.Table.{none, more, IsGood}
 use Rattle.accounts.specs.Promises.{AddedFound, AddedHash, Appends, past, malformed, no-code, long-name, no-table, no-room, appends, AppendsExact, Appending, AppendedFormed, AppendedFound, AppendedHash}
-use Rattle.accounts.proofs.Tables.{so-table, table-so}
+use Rattle.accounts.proofs.Tables.{so-table}
 use Rattle.accounts.proofs.Joined.{further, joined-formed, joined-searched, empty-formed}
 use Rattle.accounts.proofs.Laying.{length-account}
 

@@ -16,7 +16,7 @@ use Rattle.state.proofs.Fields.{peer-octets-back, server-octets-back}
 use Rattle.calls.specs.Done.{Done, done, unsized, ended, kept}
 use Rattle.calls.specs.Ends.{isPeer, isServer, isSixteen, begun, peerNewAt, peerStepAt, peerSupplyAt, peerGiveUpAt, serverNewAt, serverStartAt, serverPacketAt, serverResendAt}
 use Rattle.calls.specs.Run.{makes, steps, supplies, givesUp, renews, calls}
-use Rattle.calls.specs.Promises.{PeerStays, ServerStays}
+use Rattle.calls.specs.Promises.{PeerStays, ServerStays, ResendLeaves}
 
 stays : {S : Type 0} (octetsOf : S → List ℕ) (a b : Bool) (o : Outcome S) (p : S) (s reply : List ℕ) → octetsOf p ≡ s → pick b o (refused 23 p) .state ≡ p
     → pick (a && b) (ended octetsOf o s reply) (unsized s reply) .state ≡ s
@@ -51,9 +51,13 @@ unfolding pick
 new-server-stays true s e = e
 new-server-stays false s e = refl
 
+pub resend-leaves : ResendLeaves
+unfolding serverResendAt kept
+resend-leaves s reply = arms (λ (d : Done). d .state ≡ s) (isServer s) refl refl
+
 pub server-stays : ServerStays
-unfolding serverNewAt serverStartAt serverPacketAt serverResendAt kept pick
+unfolding serverNewAt serverStartAt serverPacketAt pick
 server-stays s renews z h = new-server-stays (isServer s) s (ap octetsOfServer h ∙ server-octets-back s z)
 server-stays s (calls (starts id challenge name retries reply)) z h = stays octetsOfServer (isServer s) (isSixteen challenge) _ (serverOf s) s reply (server-octets-back s z) h
 server-stays s (calls (brings packet table fresh reply)) z h = stays octetsOfServer (isServer s) (isSixteen fresh) _ (serverOf s) s reply (server-octets-back s z) h
-server-stays s (calls (resends reply)) z h = arms (λ (d : Done). d .state ≡ s) (isServer s) refl refl
+server-stays s (calls (resends reply)) z h = resend-leaves s reply

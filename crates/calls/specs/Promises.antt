@@ -15,7 +15,7 @@ use Rattle.state.specs.PeerOctets.{peerOf, octetsOfPeer}
 use Rattle.state.specs.ServerOctets.{serverOf}
 use Rattle.state.specs.Promises.{IsPeerState, IsServerState}
 use Rattle.calls.specs.Done.{wordOf, Done, done, Made, made}
-use Rattle.calls.specs.Ends.{isPeer, isSixteen}
+use Rattle.calls.specs.Ends.{isPeer, isSixteen, serverResendAt}
 use Rattle.calls.specs.Run.{PeerCall, makes, steps, supplies, givesUp, peerReply, peerCallAt, peerCall, ServerCall, serverReply, serverCallAt, serverCall}
 use Rattle.calls.specs.Stateless.{readAt, accountsAppendAt, md4At, sha1At, passwordHashAt, desAt, ntResponseAt, authenticatorAt}
 
@@ -51,6 +51,10 @@ PeerStays = (s : List ℕ) (c : PeerCall) → IsPeerState s → peerCall (peerOf
 
 abbrev pub ServerStays : Type 0
 ServerStays = (s : List ℕ) (c : ServerCall (List ℕ)) → IsServerState s → serverCall (serverOf s) c .state ≡ serverOf s → serverCallAt s c .state ≡ s
+
+-- and a resend leaves them, whatever they are
+abbrev pub ResendLeaves : Type 0
+ResendLeaves = (s reply : List ℕ) → serverResendAt s reply .state ≡ s
 
 -- ---- calls without a state: 0, or a number of the list
 pub data NumberAt : ℕ → Type 0 where

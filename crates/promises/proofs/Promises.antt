@@ -49,7 +49,7 @@ use Rattle.calls.proofs.PeerRuns.{peer-carried}
 use Rattle.calls.proofs.ServerRuns.{server-carried, wrong-guess-at}
 use Rattle.calls.proofs.Answers.{word-back, peer-answers-at, server-answers-at}
 use Rattle.calls.proofs.Stateless.{stateless-answer}
-use Rattle.calls.proofs.Stays.{peer-stays, server-stays}
+use Rattle.calls.proofs.Stays.{peer-stays, server-stays, resend-leaves}
 use Rattle.promises.specs.Promises.{Demand1, Demand2, Demand3, Beyond, Requests, Promises}
 
 demand1 : Demand1
@@ -127,6 +127,7 @@ demand2 = record {
   server-carried = server-carried;
   peer-stays = peer-stays;
   server-stays = server-stays;
+  resend-leaves = resend-leaves;
 }
 
 demand3 : Demand3

@@ -30,7 +30,7 @@ use Rattle.conversation.specs.Tries.{TriesSucceed, TriesFail}
 use Rattle.conversation.specs.Premises.{PremisesMet}
 use Rattle.state.specs.Promises.{AnyOctetsStand, PeerBack, ServerBack, PeerOctetsBack, ServerOctetsBack}
 use Rattle.calls.specs.Run.{PeerCarried, ServerCarried, WrongGuessAt}
-use Rattle.calls.specs.Promises.{WordBack, PeerAnswersAt, ServerAnswersAt, PeerStays, ServerStays, StatelessAnswer}
+use Rattle.calls.specs.Promises.{WordBack, PeerAnswersAt, ServerAnswersAt, PeerStays, ServerStays, ResendLeaves, StatelessAnswer}
 
 -- ---- Demand 1: every call, on every input, gives one answer of the list; a refusal changes no state and no lent octet
 pub record Demand1 : Type 0 where
@@ -136,6 +136,7 @@ pub record Demand2 : Type 0 where
   pub server-carried : ServerCarried
   pub peer-stays : PeerStays
   pub server-stays : ServerStays
+  pub resend-leaves : ResendLeaves
 
 -- ---- Demand 3: "the wrong-guess rule, is stated about this page's server"
 pub record Demand3 : Type 0 where
