@@ -1,21 +1,20 @@
 -- A record's name compared with the user's, eight octets at a time from its end.
-use Prim.Native.Nat.{ℕ, zero, suc, _+_, _-_, _^_, _<_, _≤_}
+use Prim.Native.Nat.{ℕ, zero, suc, _+_, _-_, _<_, _≤_}
 use mathlib.Core.Path.{_≡_, refl, sym, ap, _∙_}
 use mathlib.Core.List.{List, [], _∷_, _++_, append-assoc}
 use mathlib.Core.Bool.{Bool, true, false}
 use mathlib.Core.Logic.{_⊎_, inl, inr}
-use native.Mathlib.Numerals.{add-one}
 use native.Mathlib.Omega.{arith}
-use lib.ListN.{length, getD, take, drop, replicate, length-append, length-take, length-drop, length-replicate, drop-of-length-le}
-use lib.Seq.{take-all, take-nil, length-take-le, take-take, take-at, drop-at, drop-drop, drop-cons, take-append-le}
+use lib.ListN.{length, getD, take, drop, replicate, length-append, length-take, length-drop, length-replicate, getD-replicate, drop-of-length-le, List·getD-append}
+use lib.Seq.{take-all, take-nil, length-take-le, take-take, take-at, drop-at, drop-drop, drop-cons, getD-drop, getD-append-add}
 use lib.Dec.{ltb, eqb}
-use lib.Bits.{bitAnd, bitOr, bitXor, or-zero-l, or-zero-r, or-add-and, and-le-r, and-zero-r, and-mask, xor-self, xor-lt, xor-add-and, and-le-l}
+use lib.Bits.{bitAnd, bitOr, bitXor, or-zero-l, or-add-and, and-le-r, and-zero-r, and-mask, xor-self, xor-lt, xor-add-and, and-le-l}
 use borrow.Author.Tests.{eq-eqb, ne-eqb, eqb-true, eqb-false, ltb-true, ltb-false}
 use Rattle.octets.specs.Choice.{pick}
 use Rattle.octets.specs.Lists.{part, put}
 use Rattle.octets.specs.Octets.{same}
 use Rattle.octets.proofs.Exits.{exits, pick-true, pick-false, tested}
-use Rattle.octets.proofs.Lists.{length-cells, getD-cells, put-fits}
+use Rattle.octets.proofs.Lists.{put-fits, put-front}
 use Rattle.octets.proofs.Scans.{same-other}
 use Rattle.accounts.specs.Inner.{sought, nameMask}
 
@@ -57,9 +56,19 @@ masked-none x y bits h k (inr e) = rw e (ap (λ (n : ℕ). eqb n 0) whole ∙ xo
     whole = and-mask (bitXor x y) 8 ∙ omega (arith, xor-lt 8 x y h k)
 
 -- ---- the last k of eight octets
-length-mask : (mask : List ℕ) → mask ≡ nameMask → length mask ≡ 16
+abbrev ones : List ℕ
+ones = replicate 264 255
+
+abbrev none : List ℕ
+none = replicate 8 0
+
+mask-parts : (mask : List ℕ) → mask ≡ nameMask → mask ≡ none ++ drop 8 ones
 unfolding nameMask
-length-mask mask e = ap length e ∙ length-cells 16 _
+mask-parts mask e = e ∙ put-front ones none (omega (arith, length-replicate {A = ℕ} 264 255, length-replicate {A = ℕ} 8 0)) ∙ ap (λ (n : ℕ). none ++ drop n ones) (length-replicate {A = ℕ} 8 0)
+
+length-mask : (mask : List ℕ) → mask ≡ nameMask → length mask ≡ 264
+length-mask mask e =
+    ap length (mask-parts mask e) ∙ length-append none (drop 8 ones) ∙ omega (arith, length-replicate {A = ℕ} 264 255, length-replicate {A = ℕ} 8 0, length-drop 8 ones)
 
 -- how many octets are passed over, or behind, after i of them
 abbrev past : ℕ → ℕ → ℕ
@@ -70,21 +79,36 @@ pub record Masked (a b mask : List ℕ) (k d i : ℕ) : Type 0 where
   pub one : length a ≡ 8
   pub two : length b ≡ 8
   pub three : mask ≡ nameMask
-  pub wide : length mask ≡ 16
-  pub few : k ≤ 8
+  pub wide : length mask ≡ 264
+  pub few : k ≤ 256
   pub most : i ≤ 8
   pub is : same (drop (8 - k) a) (drop (8 - k) b) ≡ pick (eqb d 0) (same (drop (past k i) a) (drop (past k i) b)) false
 
-mask-at : (mask : List ℕ) (p : ℕ) → mask ≡ nameMask → p < 16 → getD mask p 0 ≡ pick (ltb p 8) 0 255
-unfolding nameMask
-mask-at mask p e h = ap (λ (l : List ℕ). getD l p 0) e ∙ getD-cells 16 _ p h
+mask-at : (mask : List ℕ) (p : ℕ) → mask ≡ nameMask → p < 264 → getD mask p 0 ≡ pick (ltb p 8) 0 255
+mask-at mask p e h = ap (λ (l : List ℕ). getD l p 0) (mask-parts mask e) ∙ tested (ltb p 8) before within
+  where
+    eight : length none ≡ 8
+    eight = length-replicate {A = ℕ} 8 0
 
-pub mask-bits : (mask : List ℕ) (k i : ℕ) → mask ≡ nameMask → k ≤ 8 → i < 8 → (getD mask (k + i) 0 ≡ 0) ⊎ (getD mask (k + i) 0 ≡ 255)
+    before : ltb p 8 ≡ true → getD (none ++ drop 8 ones) p 0 ≡ pick (ltb p 8) 0 255
+    before t =
+        let l : p < 8 = ltb-true _ _ t in
+        let k : p < length none = omega (arith, eight) in
+        List·getD-append none (drop 8 ones) 0 p k ∙ getD-replicate 8 p 0 0 l ∙ sym (pick-true _ _ _ t)
+
+    within : ltb p 8 ≡ false → getD (none ++ drop 8 ones) p 0 ≡ pick (ltb p 8) 0 255
+    within t =
+        let l : 8 ≤ p = ltb-false _ _ t in
+        let q : p ≡ length none + (p - 8) = omega (arith, eight) in
+        let k : 8 + (p - 8) < 264 = omega arith in
+        ap (λ (n : ℕ). getD (none ++ drop 8 ones) n 0) q ∙ getD-append-add none (drop 8 ones) (p - 8) 0 ∙ getD-drop 8 ones (p - 8) 0 ∙ getD-replicate 264 (8 + (p - 8)) 255 0 k ∙ sym (pick-false _ _ _ t)
+
+pub mask-bits : (mask : List ℕ) (k i : ℕ) → mask ≡ nameMask → k ≤ 256 → i < 8 → (getD mask (k + i) 0 ≡ 0) ⊎ (getD mask (k + i) 0 ≡ 255)
 mask-bits mask k i e h l =
     let m : getD mask (k + i) 0 ≡ pick (ltb (k + i) 8) 0 255 = mask-at mask (k + i) e (omega arith) in
     tested (ltb (k + i) 8) (λ t. inl (m ∙ pick-true _ _ _ t)) (λ t. inr (m ∙ pick-false _ _ _ t))
 
-pub mask-first : (a b mask : List ℕ) (k : ℕ) → length a ≡ 8 → length b ≡ 8 → mask ≡ nameMask → k ≤ 8 → Masked a b mask k 0 0
+pub mask-first : (a b mask : List ℕ) (k : ℕ) → length a ≡ 8 → length b ≡ 8 → mask ≡ nameMask → k ≤ 256 → Masked a b mask k 0 0
 unfolding pick
 mask-first a b mask k e f g h =
     let z : past k 0 ≡ 8 - k = omega arith in
@@ -125,10 +149,10 @@ unfolding pick
 whole true = refl
 whole false = refl
 
-none : (t : Bool) → pick t false false ≡ false
+never : (t : Bool) → pick t false false ≡ false
 unfolding pick
-none true = refl
-none false = refl
+never true = refl
+never false = refl
 
 pub mask-done : (a b mask : List ℕ) (k d i : ℕ) → Masked a b mask k d i → 8 ≤ i → eqb d 0 ≡ same (drop (8 - k) a) (drop (8 - k) b)
 unfolding same
@@ -202,21 +226,8 @@ module _ (item own : List ℕ) where
       }
 
   module _ (mask : List ℕ) (d end : ℕ) (p : Ended mask d end) where
-    -- the k octets before the end
-    ends : (k : ℕ) → k ≤ end → drop (end - k) (take end name) ≡ part item (end + 22 - k) k
-    ends k h =
-        let e : end - (end - k) ≡ k = omega arith in
-        let f : 22 + (end - k) ≡ end + 22 - k = omega arith in
-        part-past (end - k) end name ∙ (λ j. take (e j) (drop-drop (end - k) 22 item j)) ∙ ap (λ (i : ℕ). part item i k) f
-
     front : (m : ℕ) → m ≤ end → take m there ≡ take m (drop 8 own)
     front m h = take-take m (length item - 22) (drop 8 own) (omega (arith, p .most))
-
-    there-ends : (k : ℕ) → k ≤ end → drop (end - k) (take end there) ≡ part own (end + 8 - k) k
-    there-ends k h =
-        let e : end - (end - k) ≡ k = omega arith in
-        let f : 8 + (end - k) ≡ end + 8 - k = omega arith in
-        ap (drop (end - k)) (front end (omega arith)) ∙ part-past (end - k) end (drop 8 own) ∙ (λ j. take (e j) (drop-drop (end - k) 8 own j)) ∙ ap (λ (i : ℕ). part own i k) f
 
     long-name : length (take end name) ≡ length (take end there)
     long-name =
@@ -224,14 +235,14 @@ module _ (item own : List ℕ) where
         let b : end ≤ length there = omega (arith, length-take (length item - 22) (drop 8 own), length-drop 8 own, p .most, p .long, p .room) in
         length-take-le end name a ∙ sym (length-take-le end there b)
 
-    pub ended-more : (r : ℕ) → 8 < end → eqb r 0 ≡ same (part item (end + 22 - 8) 8) (part own (end + 8 - 8) 8) → Ended mask (bitOr d r) (end - 8)
-    ended-more r h e =
-        let m : 8 ≤ end = omega arith in
+    pub ended-more : (r n : ℕ) → 0 < end → eqb r 0 ≡ same (drop (end - 8) (take end (drop 22 item))) (drop (end - 8) (take end (drop 8 own))) → n ≡ end - 8 → Ended mask (bitOr d r) n
+    ended-more r n h e f =
         let l : end - 8 ≤ end = omega arith in
-        let tails : same (drop (end - 8) (take end name)) (drop (end - 8) (take end there)) ≡ eqb r 0 = (λ j. same (ends 8 m j) (there-ends 8 m j)) ∙ sym e in
+        let k : end ≤ end = omega arith in
+        let tails : same (drop (end - 8) (take end name)) (drop (end - 8) (take end there)) ≡ eqb r 0 = ap (λ (q : List ℕ). same (drop (end - 8) (take end name)) (drop (end - 8) q)) (front end k) ∙ sym e in
         let heads : same (take (end - 8) (take end name)) (take (end - 8) (take end there)) ≡ same (take (end - 8) name) (take (end - 8) there)
         = (λ j. same (take-take (end - 8) end name l j) (take-take (end - 8) end there l j)) in
-        record {
+        rw f record {
           least = p .least;
           room = p .room;
           long = p .long;
@@ -240,15 +251,15 @@ module _ (item own : List ℕ) where
           is = p .is ∙ ap (λ (b : Bool). pick (eqb d 0) b false) (same-parts (end - 8) (take end name) (take end there) long-name ∙ (λ j. pick (tails j) (heads j) false)) ∙ sym (or-none d r _);
         }
 
-    pub ended-done : (r : ℕ) → end ≤ 8 → eqb r 0 ≡ same (part item (end + 22 - end) end) (part own (end + 8 - end) end) → eqb (bitOr d r) 0 ≡ same name there
-    ended-done r h e =
-        let z : end - end ≡ 0 = omega arith in
-        let le : end ≤ end = omega arith in
-        let all : same (take end name) (take end there) ≡ eqb r 0 = sym ((λ j. same (drop (z j) (take end name)) (drop (z j) (take end there)))) ∙ (λ j. same (ends end le j) (there-ends end le j)) ∙ sym e in
-        sym (p .is ∙ ap (λ (b : Bool). pick (eqb d 0) b false) (all ∙ sym (whole (eqb r 0))) ∙ sym (or-none d r true) ∙ whole (eqb (bitOr d r) 0))
+    pub ended-done : end ≤ 0 → eqb d 0 ≡ same name there
+    unfolding same
+    ended-done h = let z : end ≡ 0 = omega arith in sym (p .is ∙ rw z (whole (eqb d 0)))
 
     pub ended-end : (end + 22 ≤ length item) × (end + 8 ≤ length own)
     ended-end = (p .most, omega (arith, p .most, p .room, p .long))
+
+    pub ended-few : end ≤ 256
+    ended-few = omega (arith, p .most, p .room)
 
 abbrev zeros : List ℕ
 zeros = replicate 264 0
@@ -293,18 +304,21 @@ name-same user own item d h k o f = sym (whole _) ∙ or-none d (bitXor n (lengt
         let x : pick (eqb (bitXor n (length user)) 0) true false ≡ false = pick-false _ _ _ (xor-none n (length user) ∙ t) in
         let m : n ≡ length user → ⊥ = eqb-false _ _ t in
         let l : length (drop 22 item) ≡ length user → ⊥ = λ q. m (omega (arith, length-drop 22 item)) in
-        ap (λ (b : Bool). pick (eqb d 0) b false) x ∙ none (eqb d 0) ∙ same-other (drop 22 item) user l
+        ap (λ (b : Bool). pick (eqb d 0) b false) x ∙ never (eqb d 0) ∙ same-other (drop 22 item) user l
 
--- the octets that are lent, and the last k of them
-pub end-apart : (item own : List ℕ) (end k from to last : ℕ) (r : ℕ) → k ≤ 8 → from ≡ end + 14 → to ≡ end + 22 → last ≡ end + 8
-    → eqb r 0 ≡ same (drop (8 - k) (take (to - from) (drop from item))) (drop (8 - k) (take (last - end) (drop end own)))
-    → eqb r 0 ≡ same (part item (end + 22 - k) k) (part own (end + 8 - k) k)
-end-apart item own end k from to last r h f t l e =
-    e ∙ (λ j. same (last-k item from (to - from) (end + 22 - k) (omega arith) (omega arith) j) (last-k own end (last - end) (end + 8 - k) (omega arith) (omega arith) j))
+-- the eight octets that are lent, and those of them that are the name's
+pub end-apart : (item own : List ℕ) (end from to last : ℕ) (r : ℕ) → from ≡ end + 14 → to ≡ end + 22 → last ≡ end + 8
+    → eqb r 0 ≡ same (drop (8 - end) (take (to - from) (drop from item))) (drop (8 - end) (take (last - end) (drop end own)))
+    → eqb r 0 ≡ same (drop (end - 8) (take end (drop 22 item))) (drop (end - 8) (take end (drop 8 own)))
+end-apart item own end from to last r f t l e =
+    e ∙ (λ j. same (lent item from (to - from) 22 (omega arith) (omega arith) j) (lent own end (last - end) 8 (omega arith) (omega arith) j))
   where
-    last-k : (s : List ℕ) (i n i′ : ℕ) → n ≡ 8 → i + (8 - k) ≡ i′ → drop (8 - k) (take n (drop i s)) ≡ part s i′ k
-    last-k s i n i′ a b =
-        let c : n - (8 - k) ≡ k = omega arith in
-        part-past (8 - k) n (drop i s) ∙ (λ j. take (c j) (drop-drop (8 - k) i s j)) ∙ ap (λ (m : ℕ). part s m k) b
+    lent : (s : List ℕ) (i n at : ℕ) → n ≡ 8 → i + (8 - end) ≡ at + (end - 8) → drop (8 - end) (take n (drop i s)) ≡ drop (end - 8) (take end (drop at s))
+    lent s i n at a b =
+        let c : n - (8 - end) ≡ end - (end - 8) = omega arith in
+        part-past (8 - end) n (drop i s)
+        ∙ (λ j. take (c j) (drop-drop (8 - end) i s j))
+        ∙ ap (λ (m : ℕ). take (end - (end - 8)) (drop m s)) b
+        ∙ sym (part-past (end - 8) end (drop at s) ∙ ap (take (end - (end - 8))) (drop-drop (end - 8) at s))
 
-pub ruleset masks = (exits, masked-none, mask-bits, mask-first, mask-more, mask-done, ended-first, ended-more, ended-done, ended-end, length-sought, name-same, end-apart)
+pub ruleset masks = (exits, masked-none, mask-bits, mask-first, mask-more, mask-done, ended-first, ended-more, ended-done, ended-end, ended-few, length-sought, name-same, end-apart)

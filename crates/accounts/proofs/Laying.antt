@@ -17,9 +17,11 @@ use Rattle.answer.specs.Outcome.{Outcome, outcome, refused, fitting, Does}
 use Rattle.answer.specs.Sizes.{maxName}
 use Rattle.answer.proofs.Outcomes.{does-by, fitting-so, fitting-not}
 use Rattle.accounts.specs.Inner.{StartsWith}
-use Rattle.accounts.specs.Accounts.{isCode, wellFormed, checkNumber}
+use Rattle.accounts.specs.Accounts.{isCode, wellFormed, lookedOf}
 use Rattle.accounts.specs.Account.{accountHead, accountRecord, recordFor, maxTable, grown, appendOf, appendIn}
+use Rattle.accounts.specs.declared.Looked.{Looked}
 use Rattle.accounts.proofs.Tables.{table-so}
+use Rattle.accounts.proofs.Lookups.{looked-formed}
 
 -- ---- records
 pub length-account : (code : ℕ) (hash name : List ℕ) → length hash ≡ 16 → length (accountRecord code hash name) ≡ 22 + length name
@@ -75,13 +77,8 @@ code-small code b e t = below code 65536 (λ h. h) (λ h. clash (large-none code
 pub ruleset holding = (needs, no-code, long-name, has-record, starts-laid, code-small)
 
 -- ---- a table with an account more
-pub is-formed : (d q : List ℕ) (n j k : ℕ) → q ≡ take n d → j ≡ checkNumber q → k ≡ j → eqb k 0 ≡ wellFormed (take n d)
-unfolding checkNumber pick
-is-formed d q n j k s e f = ap (λ (m : ℕ). eqb m 0) (f ∙ e) ∙ go (wellFormed q) ∙ ap wellFormed s
-  where
-    go : (b : Bool) → eqb (pick (not b) 21 0) 0 ≡ b
-    go true = refl
-    go false = refl
+pub is-formed : (d q name : List ℕ) (n : ℕ) (l : Looked) → q ≡ take n d → l ≡ lookedOf q name → l .formed ≡ wellFormed (take n d)
+is-formed d q name n l s e = looked-formed q name l e ∙ ap wellFormed s
 
 nothing : (number k n : ℕ) (b : List ℕ) → k ≡ number → n ≡ 0 → Does (refused {S = Unit {0}} number tt) k n tt b b
 nothing number k n b e z = record { answered = e; count = z; left = refl; written = refl }

@@ -16,7 +16,8 @@ use Rattle.octets.proofs.Scans.{same-true, same-refl}
 use Rattle.answer.specs.Outcome.{Told, gives, refuses}
 use Rattle.answer.specs.Sizes.{maxName}
 use Rattle.accounts.specs.Records.{records}
-use Rattle.accounts.specs.Accounts.{codeOf, hashOf, recordName, wellFormed, isAccountOf, Placed, placed, firstFrom, accountOf, recordOf, Lookup, absent, account, lookupOf, findTold}
+use Rattle.accounts.specs.Accounts.{codeOf, hashOf, recordName, wellFormed, isAccountOf, Placed, placed, firstFrom, accountOf, recordOf, Lookup, absent, account, lookupOf, looked, lookedIn, lookedOf, findTold}
+use Rattle.accounts.specs.declared.Looked.{Looked}
 use Rattle.accounts.specs.Table.{All, none, more, IsAccount, Names, NoneNames, FirstNames, Tells, tells-malformed, tells-long, tells-absent, tells-account}
 use Rattle.accounts.specs.Promises.{LookupsExact}
 use Rattle.accounts.proofs.Tables.{flatten-append, records-join, table-so, so-table, no-table, table-not}
@@ -97,11 +98,11 @@ first-names user at (r ∷ rs) e = tested (isAccountOf user r) yes (no (first-na
         })
 
 -- ---- what `find` tells
-lookup-none : (user : List ℕ) (e : Placed) → isAccountOf user (e .octets) ≡ false → lookupOf user e ≡ absent
+pub lookup-none : (user : List ℕ) (e : Placed) → isAccountOf user (e .octets) ≡ false → lookupOf user e ≡ absent
 unfolding lookupOf
 lookup-none user e h = pick-false _ _ _ h
 
-lookup-some : (user : List ℕ) (e : Placed) → isAccountOf user (e .octets) ≡ true → lookupOf user e ≡ account (codeOf (e .octets)) (e .place + 6)
+pub lookup-some : (user : List ℕ) (e : Placed) → isAccountOf user (e .octets) ≡ true → lookupOf user e ≡ account (codeOf (e .octets)) (e .place + 6)
 unfolding lookupOf
 lookup-some user e h = pick-true _ _ _ h
 
@@ -188,3 +189,26 @@ module _ (t user : List ℕ) (w : wellFormed t ≡ true) (i : isAccountOf user (
       ∙ ap (λ (l : List ℕ). part l (length (flatten (names .before)) + 6) 16) split
       ∙ ap (take 16) (drop-append-add (flatten (names .before)) (recordOf t user ++ flatten (names .after)) 6 ∙ drop-append-le 6 (recordOf t user) (flatten (names .after)) six)
       ∙ take-append-le 16 (drop 6 (recordOf t user)) (flatten (names .after)) sixteen
+
+-- ---- what `look` gives
+module _ (t user : List ℕ) (l : Looked) (e : l ≡ lookedOf t user) where
+  looked-good : (m : Lookup) → lookedIn m .formed ≡ true
+  looked-good absent = refl
+  looked-good (account code hash) = refl
+
+  pub looked-formed : l .formed ≡ wellFormed t
+  unfolding lookedOf
+  looked-formed =
+      tested (wellFormed t)
+      (λ w. ap (λ (x : Looked). x .formed) (e ∙ pick-true _ _ _ w) ∙ looked-good (lookupOf user (accountOf t user)) ∙ sym w)
+      (λ w. ap (λ (x : Looked). x .formed) (e ∙ pick-false _ _ _ w) ∙ sym w)
+
+  -- the user has an account
+  pub looked-there : wellFormed t ≡ true → isAccountOf user (recordOf t user) ≡ true → l ≡ looked true (codeOf (recordOf t user)) (accountOf t user .place + 6)
+  unfolding lookedOf
+  looked-there w i = e ∙ pick-true _ _ _ w ∙ ap lookedIn (lookup-some user (accountOf t user) i)
+
+  -- or has none
+  pub looked-none : wellFormed t ≡ true → isAccountOf user (recordOf t user) ≡ false → l ≡ looked true 0 0
+  unfolding lookedOf
+  looked-none w i = e ∙ pick-true _ _ _ w ∙ ap lookedIn (lookup-none user (accountOf t user) i)

@@ -9,16 +9,18 @@ use lib.Dec.{eqb}
 use borrow.Author.Tests.{lt-ltb, le-ltb, eq-eqb, ne-eqb, eqb-true, eqb-false, not-false}
 use Rattle.octets.specs.Choice.{pick}
 use Rattle.octets.specs.Octets.{numberAt, same}
-use Rattle.octets.proofs.Exits.{exits, pick-true, pick-false, passed, tested, and-both, and-first, and-second, gave-not, gave-true, gave-false}
+use Rattle.octets.proofs.Exits.{exits, pick-true, pick-false, passed, tested, arms, clash, and-both, and-first, and-second, gave-true, gave-false}
 use Rattle.octets.proofs.Parts.{rest-all}
 use Rattle.answer.specs.Outcome.{Told, gives, refuses}
 use Rattle.answer.specs.Sizes.{maxName}
-use Rattle.accounts.specs.Inner.{head}
+use Rattle.accounts.specs.Inner.{head, toldLooked}
 use Rattle.accounts.specs.Records.{kindOf, framed, records, every, sound}
-use Rattle.accounts.specs.Accounts.{codeOf, recordGood, wellFormed, isAccountOf, placed, firstFrom, accountOf, Lookup, absent, account, lookupOf, findTold}
+use Rattle.accounts.specs.Accounts.{codeOf, recordGood, wellFormed, isAccountOf, placed, firstFrom, accountOf, recordOf, Lookup, absent, account, lookupOf, looked, lookedIn, lookedOf, findTold}
 use Rattle.accounts.specs.declared.Known.{Known}
+use Rattle.accounts.specs.declared.Looked.{Looked}
 use Rattle.accounts.proofs.Records.{next, stops, ends}
 use Rattle.accounts.proofs.Tables.{good-so}
+use Rattle.accounts.proofs.Lookups.{lookup-some, lookup-none, looked-formed, looked-there, looked-none}
 
 -- whether there is a record, and it is good
 abbrev itemGood : List ℕ → Bool
@@ -91,17 +93,33 @@ module _ (t user : List ℕ) where
 -- ---- the loop: all but l is behind
 pub record Walking (t user : List ℕ) (k : Known) (l : List ℕ) : Type 0 where
   pub most : length l ≤ length t
+  pub none : k .hash ≡ 0 → k .code ≡ 0
   pub is : told t user ≡ sees t user k (length t - length l) (records l)
 
-pub walk-long : (t user : List ℕ) → 65536 < length t → refuses 21 absent ≡ told t user
+-- what is told, as values
+unformed : (t user : List ℕ) → refuses 21 absent ≡ told t user → looked false 0 0 ≡ lookedOf t user
+unfolding lookedOf
+unformed t user e =
+    tested (wellFormed t)
+    (λ w. let z : 21 ≡ 0 = ap (λ (x : Told Lookup). x .number) (e ∙ pick-true _ _ _ w) in absurd (omega arith))
+    (λ w. sym (pick-false _ _ _ w))
+
+formed : (t user : List ℕ) (m : Lookup) → gives m ≡ told t user → lookedIn m ≡ lookedOf t user
+unfolding lookedOf
+formed t user m e =
+    tested (wellFormed t)
+    (λ w. ap (λ (x : Told Lookup). lookedIn (x .value)) (e ∙ pick-true _ _ _ w) ∙ sym (pick-true _ _ _ w))
+    (λ w. let z : 0 ≡ 21 = ap (λ (x : Told Lookup). x .number) (e ∙ pick-false _ _ _ w) in absurd (omega arith))
+
+pub walk-long : (t user : List ℕ) → 65536 < length t → looked false 0 0 ≡ lookedOf t user
 unfolding wellFormed
-walk-long t user h = sym (pick-false _ _ _ (pick-true _ _ _ (lt-ltb _ _ h)))
+walk-long t user h = unformed t user (sym (pick-false _ _ _ (pick-true _ _ _ (lt-ltb _ _ h))))
 
 pub walk-none : (t user : List ℕ) → length t ≤ 65536 → Walking t user (record { code = 0; hash = 0 }) t
 unfolding wellFormed sound accountOf sees pick
 walk-none t user h =
     let e : length t - length t ≡ 0 = omega arith in
-    record { most = omega arith; is = rw e (ap (λ (b : Bool). pick b (gives (lookupOf user (accountOf t user))) (refuses 21 absent)) (pick-false _ false (sound recordGood t) (le-ltb _ _ h))) }
+    record { most = omega arith; none = λ _. refl; is = rw e (ap (λ (b : Bool). pick b (gives (lookupOf user (accountOf t user))) (refuses 21 absent)) (pick-false _ false (sound recordGood t) (le-ltb _ _ h))) }
 
 -- a good record, and what is left after it
 module _ (l q : List ℕ) (s : q ≡ head l) (g : itemGood q ≡ true) where
@@ -116,8 +134,8 @@ module _ (l q : List ℕ) (s : q ≡ head l) (g : itemGood q ≡ true) where
 
 -- a turn at the record q, or at none
 module _ (t user : List ℕ) (k : Known) (l q : List ℕ) (w : Walking t user k l) (h : 0 < length l) (s : q ≡ head l) where
-  pub walk-bad : itemGood q ≡ false → refuses 21 absent ≡ told t user
-  walk-bad g = tested (eqb (length q) 0) none off
+  pub walk-bad : itemGood q ≡ false → looked false 0 0 ≡ lookedOf t user
+  walk-bad g = unformed t user (tested (eqb (length q) 0) none off)
     where
       none : eqb (length q) 0 ≡ true → refuses 21 absent ≡ told t user
       none z = let p = stops l q s h (eqb-true _ _ z) in sym (w .is ∙ ap (sees t user k _) (p .is) ∙ sees-bad t user k _ l [] (and-first _ _ (p .framed)))
@@ -134,11 +152,43 @@ module _ (t user : List ℕ) (k : Known) (l q : List ℕ) (w : Walking t user k 
       let a : length t - length (drop (length q) l) ≡ length t - length l + length q = omega (arith, w .most) in
       rw (rest-all l (length q)) record {
         most = omega (arith, w .most);
+        none = rw e (arms (λ (x : Known). x .hash ≡ 0 → x .code ≡ 0) _ (w .none) (arms (λ (x : Known). x .hash ≡ 0 → x .code ≡ 0) _ (λ z. absurd (omega arith)) (w .none)));
         is = w .is ∙ ap (sees t user k _) (p .is) ∙ sees-more t user k _ q _ (p .framed) (good-formed q g) ∙ rw (e, a);
       }
 
-pub walk-done : (t user : List ℕ) (k : Known) (l : List ℕ) (x : Told Lookup) → Walking t user k l → length l ≤ 0 → x ≡ gives (known k absent) → x ≡ told t user
-walk-done t user k l x w h e = e ∙ sym (w .is ∙ ap (sees t user k _) (ends l (omega arith)) ∙ sees-none t user k _)
+pub walk-done : (t user : List ℕ) (k : Known) (l : List ℕ) → Walking t user k l → length l ≤ 0 → looked true (k .code) (k .hash) ≡ lookedOf t user
+walk-done t user k l w h = values ∙ formed t user _ (sym (w .is ∙ ap (sees t user k _) (ends l (omega arith)) ∙ sees-none t user k _))
+  where
+    values : looked true (k .code) (k .hash) ≡ lookedIn (known k absent)
+    values =
+        tested (eqb (k .hash) 0)
+        (λ z. let n : k .hash ≡ 0 = eqb-true _ _ z in (λ j. looked true (w .none n j) (n j)) ∙ sym (ap lookedIn (pick-true _ _ _ z)))
+        (λ z. sym (ap lookedIn (pick-false _ _ _ z)))
+
+-- what a walk told, as an answer
+pub found-bad : (b : Bool) (code hash : ℕ) → not b ≡ true → refuses 21 absent ≡ toldLooked b code hash
+found-bad true code hash e = clash refl e
+found-bad false code hash e = refl
+
+pub found-none : (b : Bool) (code hash : ℕ) → not b ≡ false → hash ≡ 0 → gives absent ≡ toldLooked b code hash
+found-none true code hash e z = sym (ap gives (pick-true _ _ _ (eq-eqb _ _ z)))
+found-none false code hash e z = clash e refl
+
+pub found-one : (b : Bool) (code hash : ℕ) → not b ≡ false → (hash ≡ 0 → ⊥) → gives (account code hash) ≡ toldLooked b code hash
+found-one true code hash e z = sym (ap gives (pick-false _ _ _ (ne-eqb _ _ z)))
+found-one false code hash e z = clash e refl
+
+pub walk-found : (t user : List ℕ) (l : Looked) (x : Told Lookup) → l ≡ lookedOf t user → x ≡ toldLooked (l .formed) (l .code) (l .hash) → x ≡ told t user
+walk-found t user l x e f = f ∙ tested (wellFormed t) yes no
+  where
+    no : wellFormed t ≡ false → toldLooked (l .formed) (l .code) (l .hash) ≡ told t user
+    no w = ap (λ (b : Bool). toldLooked b (l .code) (l .hash)) (looked-formed t user l e ∙ w) ∙ sym (pick-false _ _ _ w)
+
+    yes : wellFormed t ≡ true → toldLooked (l .formed) (l .code) (l .hash) ≡ told t user
+    yes w =
+        tested (isAccountOf user (recordOf t user))
+        (λ i. ap (λ (y : Looked). toldLooked (y .formed) (y .code) (y .hash)) (looked-there t user l e w i) ∙ ap gives (pick-false _ _ _ (ne-eqb (accountOf t user .place + 6) 0 (λ z. omega arith))) ∙ sym (pick-true _ _ _ w ∙ ap gives (lookup-some user (accountOf t user) i)))
+        (λ i. ap (λ (y : Looked). toldLooked (y .formed) (y .code) (y .hash)) (looked-none t user l e w i) ∙ ap gives (pick-true _ _ _ refl) ∙ sym (pick-true _ _ _ w ∙ ap gives (lookup-none user (accountOf t user) i)))
 
 -- ---- a walk that looks for nobody
 pub record Forming (t l : List ℕ) : Type 0 where

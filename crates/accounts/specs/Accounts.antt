@@ -11,6 +11,7 @@ use Rattle.octets.specs.declared.Order.the-variants.{Little}
 use Rattle.answer.specs.Outcome.{Told, gives, refuses}
 use Rattle.answer.specs.Sizes.{maxName}
 use Rattle.accounts.specs.Records.{kindOf, records, sound}
+use Rattle.accounts.specs.declared.Looked.{Looked}
 use Rattle.accounts.specs.declared.Found.{Found}
 use Rattle.accounts.specs.declared.Found.the-variants as found
 
@@ -74,6 +75,17 @@ pub data Lookup : Type 0 where
 
 unfoldable pub lookupOf : List ℕ → Placed → Lookup
 lookupOf user e = pick (isAccountOf user (e .octets)) (account (codeOf (e .octets)) (e .place + 6)) absent
+
+-- the same as values: whether the table is well formed, and the account's code and place, or zeros
+abbrev pub looked : Bool → ℕ → ℕ → Looked
+looked formed code hash = record { formed = formed; code = code; hash = hash }
+
+abbrev pub lookedIn : Lookup → Looked
+lookedIn absent = looked true 0 0
+lookedIn (account code hash) = looked true code hash
+
+unfoldable pub lookedOf : List ℕ → List ℕ → Looked
+lookedOf t user = pick (wellFormed t) (lookedIn (lookupOf user (accountOf t user))) (looked false 0 0)
 
 -- 21, then 23 for a user of more than 256 octets, and else 0 with the account or none
 unfoldable pub findTold : List ℕ → List ℕ → Told Lookup

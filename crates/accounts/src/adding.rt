@@ -11,8 +11,8 @@ ghost use Rattle.accounts.specs.Accounts.{isCode, wellFormed};
 ghost use Rattle.accounts.specs.Account.{accountHead, accountRecord, recordFor, maxTable, grown, appendIn};
 ghost use Rattle.accounts.specs.Inner.{StartsWith};
 use crate::Added;
-use crate::check;
 use crate::is_code;
+use crate::look;
 use answer::Answer;
 use answer::Refusal;
 
@@ -110,12 +110,13 @@ fn done(n: usize) -> Added
     }
 }
 
-// Whether the first n octets of a buffer are a well-formed table.
-fn is_table(buffer: &[u8], n: usize) -> bool
+// Whether the first n octets of a buffer are a well-formed table. A lookup tells that too, so that what is linked has one walk that
+// compares names and one that does not.
+fn is_table(buffer: &[u8], n: usize, name: &[u8]) -> bool
     ensures { λ r. ⌜ r ≡ wellFormed (take n (now (buffer .entry))) ⌝ }
 {
-    let a = check(octets::part(buffer, 0, n));
-    answer::number(a) == 0
+    let looked = look(octets::part(buffer, 0, n), name);
+    looked.formed
 }
 
 // An account that has a record, after a table of n octets; or 20.
@@ -142,7 +143,7 @@ pub fn append(table: &mut [u8], used: usize, code: u64, hash: [u8; 16], name: &[
     if table.len() < used {
         return refuse(Refusal::BadArgument);
     }
-    if !is_table(table, used) {
+    if !is_table(table, used, name) {
         return refuse(Refusal::BadTable);
     }
     if !is_code(code) {

@@ -10,8 +10,8 @@ ghost use Rattle.octets.specs.Choice.{pick};
 ghost use Rattle.octets.specs.Octets.{same};
 ghost use Rattle.answer.specs.Answer.{numberOf};
 ghost use Rattle.answer.specs.Outcome.{gives, refuses};
-ghost use Rattle.accounts.specs.Inner.{head, sought, nameMask};
-ghost use Rattle.accounts.specs.Accounts.{codeOf, isCode, accountGood, recordGood, wellFormed, isAccountOf, accountOf, absent, account, lookupOf, checkNumber, findTold, toldFound};
+ghost use Rattle.accounts.specs.Inner.{head, sought, nameMask, toldLooked};
+ghost use Rattle.accounts.specs.Accounts.{codeOf, isCode, accountGood, recordGood, wellFormed, isAccountOf, accountOf, absent, account, lookupOf, lookedOf, checkNumber, findTold, toldFound};
 use answer::Answer;
 use answer::Refusal;
 use octets::Order;
@@ -44,6 +44,20 @@ struct Known {
 }
 
 const NONE: Known = Known { code: 0, hash: 0 };
+
+// What `look` answers, as plain values, so that nothing waits for a test of whether there is an account: whether the table is well
+// formed; the code of the user's account, and where its hash begins, which is 0 where there is none.
+pub struct Looked {
+    pub formed: bool,
+    pub code: u16,
+    pub hash: usize,
+}
+
+const UNFORMED: Looked = Looked {
+    formed: false,
+    code: 0,
+    hash: 0,
+};
 
 // The record that `left` begins with; no octets where it begins with none.
 fn first_record(left: &[u8]) -> &[u8]
@@ -153,47 +167,62 @@ fn keep(known: Known, user: &[u8], own: &[u8], mask: &[u8], at: usize, item: &[u
     known
 }
 
-fn found_of(known: Known) -> Found
-    ensures { λ r. ⌜ toldFound r ≡ gives (pick (eqb (known .hash) 0) absent (account (known .code) (known .hash))) ⌝ }
+fn found_of(looked: Looked) -> Found
+    ensures { λ r. ⌜ toldFound r ≡ toldLooked (looked .formed) (looked .code) (looked .hash) ⌝ }
 {
-    if known.hash == 0 {
+    if !looked.formed {
+        return Found::Malformed;
+    }
+    if looked.hash == 0 {
         return Found::Absent;
     }
     Found::Account {
-        code: known.code,
-        hash: known.hash,
+        code: looked.code,
+        hash: looked.hash,
     }
 }
 
 // One walk, which goes on past the user's account to the end of the table, and whose work depends on the table alone.
 // It carries the octets that are left and not a place, which saves an addition from one record to the next.
-fn walk_by(table: &[u8], user: &[u8], own: &[u8], mask: &[u8]) -> Found
+fn walk_by(table: &[u8], user: &[u8], own: &[u8], mask: &[u8]) -> Looked
     requires { ⌜ (now own ≡ sought (now user)) × (now mask ≡ nameMask) ⌝ }
-    ensures { λ r. ⌜ toldFound r ≡ pick (wellFormed (now (table .entry))) (gives (lookupOf (now (user .entry)) (accountOf (now (table .entry)) (now (user .entry))))) (refuses 21 absent) ⌝ }
+    ensures { λ r. ⌜ r ≡ lookedOf (now (table .entry)) (now (user .entry)) ⌝ }
 {
     if 65536 < table.len() {
-        return Found::Malformed;
+        return UNFORMED;
     }
     let mut known = NONE;
     let mut left = table;
     while 0 < left.len() {
         let item = first_record(left);
         if !item_good(item) {
-            return Found::Malformed;
+            return UNFORMED;
         }
         known = keep(known, user, own, mask, table.len() - left.len(), item);
         let n = item.len();
         left = &left[n..];
     }
-    found_of(known)
+    Looked {
+        formed: true,
+        code: known.code,
+        hash: known.hash,
+    }
+}
+
+// The account of a user, the first in the table that has its name.
+pub fn look(table: &[u8], user: &[u8]) -> Looked
+    ensures { λ r. ⌜ r ≡ lookedOf (now (table .entry)) (now (user .entry)) ⌝ }
+{
+    let own = names::laid(user);
+    let mask = names::mask();
+    walk_by(table, user, &own, &mask)
 }
 
 fn walk(table: &[u8], user: &[u8]) -> Found
     ensures { λ r. ⌜ toldFound r ≡ pick (wellFormed (now (table .entry))) (gives (lookupOf (now (user .entry)) (accountOf (now (table .entry)) (now (user .entry))))) (refuses 21 absent) ⌝ }
 {
-    let own = names::laid(user);
-    let mask = names::mask();
-    walk_by(table, user, &own, &mask)
+    let looked = look(table, user);
+    found_of(looked)
 }
 
 fn is_malformed(found: Found) -> bool
@@ -236,7 +265,7 @@ pub fn check(table: &[u8]) -> Answer
     Answer::Written
 }
 
-// The account of a user, the first in the table that has its name.
+// The same as an answer, and 23 for a user of more than 256 octets.
 pub fn find(table: &[u8], user: &[u8]) -> Found
     ensures { λ r. ⌜ toldFound r ≡ findTold (now (table .entry)) (now (user .entry)) ⌝ }
 {

@@ -1,14 +1,14 @@
 // The verdict on a Response: the only code that looks into the account table.
 ghost use mathlib.Core.Path.{_≡_};
-ghost use mathlib.Core.Bool.{true};
+ghost use mathlib.Core.Bool.{true, not};
 ghost use Prim.Native.Nat.{_≤_};
 ghost use lib.ListN.{length};
+ghost use lib.Dec.{eqb};
 ghost use Rattle.octets.specs.Octets.{same};
 ghost use Rattle.answer.specs.Sizes.{maxName};
 ghost use Rattle.mschap.specs.Responses.{ntResponse, authenticatorOf};
-ghost use Rattle.verdict.specs.Inner.{malformed, known, codeIn, placeIn, weighed};
+ghost use Rattle.verdict.specs.Inner.{weighed};
 ghost use Rattle.verdict.specs.Verdict.{judgeUser, judgeOf};
-use accounts::Found;
 
 // Malformed is the mark of a table, Wrong and Right are marks of a Response.
 pub enum Mark {
@@ -95,50 +95,11 @@ fn weigh(
     }
 }
 
-// ---- what a lookup found, as values: where there is no account, the code 0 and the place 0
-
-fn is_malformed(found: Found) -> bool
-    ensures { λ r. ⌜ r ≡ malformed found ⌝ }
+// Whether a hash begins there: none does at the table's first octet.
+fn is_place(place: usize) -> bool
+    ensures { λ r. ⌜ r ≡ not (eqb place 0) ⌝ }
 {
-    match found {
-        Found::Malformed => true,
-        Found::BadUser => false,
-        Found::Absent => false,
-        Found::Account { code, hash } => false,
-    }
-}
-
-fn is_known(found: Found) -> bool
-    ensures { λ r. ⌜ r ≡ known found ⌝ }
-{
-    match found {
-        Found::Malformed => false,
-        Found::BadUser => false,
-        Found::Absent => false,
-        Found::Account { code, hash } => true,
-    }
-}
-
-fn code_in(found: Found) -> u16
-    ensures { λ r. ⌜ r ≡ codeIn found ⌝ }
-{
-    match found {
-        Found::Malformed => 0,
-        Found::BadUser => 0,
-        Found::Absent => 0,
-        Found::Account { code, hash } => code,
-    }
-}
-
-fn place_in(found: Found) -> usize
-    ensures { λ r. ⌜ r ≡ placeIn found ⌝ }
-{
-    match found {
-        Found::Malformed => 0,
-        Found::BadUser => 0,
-        Found::Absent => 0,
-        Found::Account { code, hash } => hash,
-    }
+    place != 0
 }
 
 // A Response is weighed in the same way whether its user has an account or not: without one, by the first octets of the table.
@@ -151,15 +112,14 @@ fn judge_user(
 ) -> Verdict
     ensures { λ r. ⌜ r ≡ judgeUser challenge peer response (now (user .entry)) (now (table .entry)) ⌝ }
 {
-    let found = accounts::find(table, user);
-    if is_malformed(found) {
+    let looked = accounts::look(table, user);
+    if !looked.formed {
         return MALFORMED;
     }
-    let here = is_known(found);
-    let code = code_in(found);
-    let place = place_in(found);
+    let place = looked.hash;
+    let here = is_place(place);
     let hash = packet::sixteen_at(table, place);
-    weigh(here, code, hash, challenge, peer, response, user)
+    weigh(here, looked.code, hash, challenge, peer, response, user)
 }
 
 // A Response's peer challenge, NT-Response and name, to the outstanding challenge.

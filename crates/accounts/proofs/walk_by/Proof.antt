@@ -31,5 +31,4 @@ walk-by-spec =
     walk-more _ _ _ _ _ (c .before .before .before .before .before .before .loop .inv) (c .before .before .before .before .before .loop-test .taken)
     (c .before .before .before .before .first-record .ensures)
     (gave-true _ _ (c .before .before .before .item-good .ensures) (c .before .before .if2 .left)) _ (c .before .keep .ensures))
-    (λ c κs. search walks)
     (λ c. search walks))
