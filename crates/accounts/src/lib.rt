@@ -1,6 +1,9 @@
 // The account table of document 01: whether it is well formed, and the account of a user.
+mod adding;
 mod names;
 
+pub use adding::append;
+pub use adding::append_account;
 ghost use mathlib.Core.Path.{_≡_};
 ghost use mathlib.Core.Bool.{true, false, not};
 ghost use Prim.Native.Nat.{_+_, _≤_};
@@ -17,11 +20,6 @@ use answer::Refusal;
 use octets::Order;
 use octets::number_at;
 use octets::octet;
-
-mod adding;
-
-pub use adding::append;
-pub use adding::append_account;
 
 // What `find` answers: 21, 23, or 0 with no account of the user, or its code and where in the table its hash of 16 octets begins.
 pub enum Found {
