@@ -9,7 +9,6 @@ use lib.Seq.{length-take-le, take-append-seam}
 use lib.Dec.{eqb}
 use borrow.Author.Needs.{needs}
 use borrow.Author.Tests.{lt-ltb, le-ltb, le-leb, ne-eqb}
-use Rattle.octets.specs.Choice.{pick}
 use Rattle.octets.specs.Lists.{over, put, nextAt, Appended}
 use Rattle.octets.proofs.Exits.{pick-true, pick-false, gave-not, gave-true, below, clash, or-none}
 use Rattle.octets.proofs.Lists.{put-three, put-front, put-fits}
