@@ -138,42 +138,39 @@ fn padded_word(order: Order, m: &[u8], k: usize) -> u32
 }
 
 // Block i, where the message has all of it.
-fn message_block(order: Order, m: &[u8], i: usize) -> [u32; 16]
-    requires { ⌜ (i + 1) * 64 ≤ length (now m) ⌝ }
-    ensures { λ r. ⌜ r ≡ blockAt order (now (m .entry)) i ⌝ }
+fn message_block(order: Order, m: &[u8], i: usize, b: &mut [u32; 16])
+    requires { ⌜ ((i + 1) * 64 ≤ length (now m)) × (length (now b) ≡ 16) ⌝ }
+    ensures { λ r. ⌜ now (b .exit) ≡ blockAt order (now (m .entry)) i ⌝ }
 {
-    let mut b = [0u32; 16];
     let mut j = 0;
     while j < 16 {
         let w = message_word(order, m, i * 64 + j * 4);
         b[j] = w;
         j += 1;
     }
-    b
 }
 
 // Block i, whatever of it is padding.
-fn padded_block(order: Order, m: &[u8], i: usize) -> [u32; 16]
-    requires { ⌜ (length (now m) ≤ 65536) × (i < blockCount (length (now m))) ⌝ }
-    ensures { λ r. ⌜ r ≡ blockAt order (now (m .entry)) i ⌝ }
+fn padded_block(order: Order, m: &[u8], i: usize, b: &mut [u32; 16])
+    requires { ⌜ (length (now m) ≤ 65536) × ((i < blockCount (length (now m))) × (length (now b) ≡ 16)) ⌝ }
+    ensures { λ r. ⌜ now (b .exit) ≡ blockAt order (now (m .entry)) i ⌝ }
 {
-    let mut b = [0u32; 16];
     let mut j = 0;
     while j < 16 {
         let w = padded_word(order, m, i * 64 + j * 4);
         b[j] = w;
         j += 1;
     }
-    b
 }
 
-// Block i of the padded message.
-pub(crate) fn block_at(order: Order, m: &[u8], i: usize) -> [u32; 16]
-    requires { ⌜ (length (now m) ≤ 65536) × (i < blockCount (length (now m))) ⌝ }
-    ensures { λ r. ⌜ r ≡ blockAt order (now (m .entry)) i ⌝ }
+// Puts block i of the padded message in b.
+pub(crate) fn put_block(order: Order, m: &[u8], i: usize, b: &mut [u32; 16])
+    requires { ⌜ (length (now m) ≤ 65536) × ((i < blockCount (length (now m))) × (length (now b) ≡ 16)) ⌝ }
+    ensures { λ r. ⌜ now (b .exit) ≡ blockAt order (now (m .entry)) i ⌝ }
 {
     if i < m.len() / 64 {
-        return message_block(order, m, i);
+        message_block(order, m, i, b);
+        return;
     }
-    padded_block(order, m, i)
+    padded_block(order, m, i, b);
 }

@@ -1,6 +1,6 @@
 // The three rounds of MD4 (RFC 1320, 3.3 to 3.5).
-use super::blocks::block_at;
 use super::blocks::block_count;
+use super::blocks::put_block;
 use super::blocks::put_octets;
 use super::words::add;
 use super::words::choose;
@@ -133,7 +133,8 @@ fn chain(m: &[u8]) -> Buffer
     };
     let mut i = 0;
     while i < n {
-        let block = block_at(Order::Little, m, i);
+        let mut block = [0u32; 16];
+        put_block(Order::Little, m, i, &mut block);
         q = compress(&block, q);
         i += 1;
     }

@@ -1,6 +1,6 @@
 // The eighty rounds of SHA-1 (FIPS 180-1, 5 to 7).
-use super::blocks::block_at;
 use super::blocks::block_count;
+use super::blocks::put_block;
 use super::blocks::put_octets;
 use super::words::add;
 use super::words::choose;
@@ -9,11 +9,12 @@ use super::words::parity;
 use super::words::rotl;
 use octets::Order;
 ghost use mathlib.Core.Path.{_≡_};
-ghost use Prim.Native.Nat.{_+_, _≤_, _<_};
-ghost use lib.ListN.{length, take};
+ghost use Prim.Native.Nat.{_+_, _%_, _≤_};
+ghost use lib.ListN.{length, getD, drop};
+ghost use Rattle.octets.specs.Lists.{cells, turns};
 ghost use Rattle.octets.specs.declared.Order.the-variants.{Big};
 ghost use Rattle.digest.specs.Blocks.{chained};
-ghost use Rattle.digest.specs.Sha1.{function, constant, nextWord, extended, schedule, round, rounds, compressed, initial, output, sha1Of};
+ghost use Rattle.digest.specs.Sha1.{function, constant, extended, schedule, round, rounds, compressed, initial, output, sha1Of};
 
 pub struct Buffer {
     pub a: u32,
@@ -69,76 +70,54 @@ fn round_of(t: usize, w: u32, r: Buffer) -> Buffer
     }
 }
 
-// The block's words, and room for those to come.
-fn first_words(block: [u32; 16]) -> [u32; 80]
-    ensures { λ r. ⌜ take 16 r ≡ block ⌝ }
+// The first sixteen rounds, over the block's words.
+fn first_rounds(w: &[u32; 16], r: Buffer) -> Buffer
+    ensures { λ q. ⌜ q ≡ turns round (λ k. getD (now (w .entry)) k 0) r 16 ⌝ }
 {
-    let mut w = [0u32; 80];
+    let mut q = r;
     let mut t = 0;
     while t < 16 {
-        w[t] = block[t];
+        let x = w[t];
+        q = round_of(t, x, q);
         t += 1;
     }
-    w
+    q
 }
 
-// W(t) from the words before it.
-fn next_word(w: &[u32], t: usize) -> u32
-    requires { ⌜ (16 ≤ t) × (t ≤ length (now w)) ⌝ }
-    ensures { λ r. ⌜ r ≡ nextWord (now (w .entry)) t ⌝ }
-{
-    rotl(w[t - 3] ^ w[t - 8] ^ w[t - 14] ^ w[t - 16], 1)
-}
-
-// Sixteen words more, after the first t.
-fn extend(w: &mut [u32], t: usize)
-    requires { ⌜ (16 ≤ t) × (t + 16 ≤ length (now w)) ⌝ }
-    ensures { λ r. ⌜ take (t + 16) (now (w .exit)) ≡ extended (take t (now (w .entry))) 16 ⌝ }
-{
-    let mut j = 0;
-    while j < 16 {
-        let x = next_word(w, t + j);
-        w[t + j] = x;
-        j += 1;
-    }
-}
-
-// The eighty words of the schedule.
-fn schedule_of(block: [u32; 16]) -> [u32; 80]
-    ensures { λ r. ⌜ r ≡ schedule block ⌝ }
-{
-    let mut w = first_words(block);
-    extend(&mut w, 16);
-    extend(&mut w, 32);
-    extend(&mut w, 48);
-    extend(&mut w, 64);
-    w
-}
-
-// Twenty rounds over the schedule w, from round t on.
-fn twenty_rounds(t: usize, w: &[u32; 80], r: Buffer) -> Buffer
-    requires { ⌜ t + 20 ≤ 80 ⌝ }
-    ensures { λ q. ⌜ q ≡ rounds t 20 (now (w .entry)) r ⌝ }
+// n rounds more, from round t on. Of the sixteen words before W(t), place i % 16 of w has W(i); the contract reads them from there
+// in their order. Each new word takes the place of the one sixteen before it.
+fn next_rounds(t: usize, n: usize, w: &mut [u32; 16], r: Buffer) -> Buffer
+    requires { ⌜ (t + n ≤ 80) × (length (now w) ≡ 16) ⌝ }
+    ensures { λ q. ⌜ (length (now (w .exit)) ≡ 16) × (cells 16 (λ k. getD (now (w .exit)) ((t + n + k) % 16) 0) ≡ drop n (extended (cells 16 (λ k. getD (now (w .entry)) ((t + k) % 16) 0)) n)) × (q ≡ turns (λ k. round (t + k)) (λ k. getD (extended (cells 16 (λ k. getD (now (w .entry)) ((t + k) % 16) 0)) n) (16 + k) 0) r n) ⌝ }
 {
     let mut q = r;
     let mut k = 0;
-    while k < 20 {
-        let x = w[t + k];
-        q = round_of(t + k, x, q);
+    while k < n {
+        let i = t + k;
+        let x = rotl(
+            w[(i + 13) % 16] ^ w[(i + 8) % 16] ^ w[(i + 2) % 16] ^ w[i % 16],
+            1,
+        );
+        w[i % 16] = x;
+        q = round_of(i, x, q);
         k += 1;
     }
     q
 }
 
-// The eighty rounds over the block's schedule. Each twenty have one function and one constant.
-fn rounds_of(block: [u32; 16], r: Buffer) -> Buffer
-    ensures { λ q. ⌜ q ≡ rounds 0 80 (schedule block) r ⌝ }
+// The eighty rounds. The block's own words become the schedule. Each part has one function and one constant, and is short enough
+// for the compiler to unroll.
+fn rounds_of(mut w: [u32; 16], r: Buffer) -> Buffer
+    ensures { λ q. ⌜ q ≡ rounds 0 80 (schedule w) r ⌝ }
 {
-    let w = schedule_of(block);
-    let one = twenty_rounds(0, &w, r);
-    let two = twenty_rounds(20, &w, one);
-    let three = twenty_rounds(40, &w, two);
-    twenty_rounds(60, &w, three)
+    let a = first_rounds(&w, r);
+    let b = next_rounds(16, 4, &mut w, a);
+    let c = next_rounds(20, 10, &mut w, b);
+    let d = next_rounds(30, 10, &mut w, c);
+    let e = next_rounds(40, 10, &mut w, d);
+    let f = next_rounds(50, 10, &mut w, e);
+    let g = next_rounds(60, 10, &mut w, f);
+    next_rounds(70, 10, &mut w, g)
 }
 
 // The buffer after one block more.
@@ -170,7 +149,8 @@ fn chain(m: &[u8]) -> Buffer
     };
     let mut i = 0;
     while i < n {
-        let block = block_at(Order::Big, m, i);
+        let mut block = [0u32; 16];
+        put_block(Order::Big, m, i, &mut block);
         q = compress(block, q);
         i += 1;
     }
