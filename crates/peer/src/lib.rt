@@ -51,10 +51,11 @@ enum Move {
     End,
 }
 
-// Of each array with a length the octets past it are zero; a length past its array counts as the array's.
+// Of each array with a length the octets past it are zero; a length past its array counts as the array's. The length stands
+// first: with no padding before the name the compiler copies it at once.
 pub struct Credentials {
-    pub name: [u8; Peer::MAX_NAME],
     pub namelen: u16,
+    pub name: [u8; Peer::MAX_NAME],
     pub hash: [u8; 16],
 }
 

@@ -1,22 +1,25 @@
 -- What was encoded decodes to the state, and what is decoded is a state.
-use Prim.Native.Nat.{ℕ, suc, _+_, _-_, _*_, _/_, _%_, _≤_}
+use Prim.Native.Nat.{ℕ, suc, _+_, _-_, _*_, _/_, _%_, _≤_, _<_}
 use native.Mathlib.Omega.{arith}
 use mathlib.Core.Path.{_≡_, refl, sym, ap, _∙_}
 use mathlib.Core.List.{List, _∷_, flatten}
 use lib.ListN.{length, drop, length-append}
-use lib.Seq.{drop-at, drop-drop}
+use lib.Seq.{drop-at, drop-drop, getD-drop}
 use Rattle.octets.specs.Lists.{sized}
-use Rattle.octets.specs.Octets.{numberAt}
-use Rattle.octets.proofs.Lists.{length-sized, sized-append}
+use Rattle.octets.specs.Octets.{pairOf, numberAt}
+use Rattle.octets.specs.declared.Order.the-variants.{Little}
+use Rattle.octets.proofs.Lists.{cells-same, length-sized, getD-sized, sized-append}
+use Rattle.answer.specs.Sizes.{maxPacket, maxName}
 use Rattle.peer.specs.declared.Stage.{Stage as PeerStage}
 use Rattle.peer.specs.declared.Stage.the-variants as peer
 use Rattle.peer.specs.declared.Peer.{Peer}
+use Rattle.peer.specs.State.{replyRoom}
 use Rattle.peerlaws.specs.Runs.{IsPeer}
 use Rattle.server.specs.declared.Stage.{Stage as ServerStage}
 use Rattle.server.specs.declared.Stage.the-variants as server
 use Rattle.server.specs.declared.Server.{Server}
 use Rattle.server.specs.State.{IsServer}
-use Rattle.state.specs.PeerOctets.{peerFields, peerOctets, peerStageOf, peerStageNumber, peerOf, octetsOfPeer}
+use Rattle.state.specs.PeerOctets.{hashAt, authenticatorAt, ownAt, nameAt, requestAt, replyAt, peerFields, peerOctets, peerStageOf, peerStageNumber, peerOf, octetsOfPeer}
 use Rattle.state.specs.Promises.{AnyOctetsStand, PeerBack, ServerBack}
 use Rattle.state.specs.ServerOctets.{serverFields, serverOctets, serverStageOf, serverStageNumber, serverOf, octetsOfServer}
 
@@ -88,6 +91,31 @@ same-peer p q a b c d e f g h j k l = λ i. record { stage = a i; credentials = 
 
 pub stage-read : (n m : ℕ) (x : PeerStage) → n ≡ m → x ≡ peerStageOf n → x ≡ peerStageOf m
 stage-read n m x e f = cc
+
+-- octets past a peer's size stand for nothing, and those that are missing for zeros
+field-sized : (n : ℕ) (s : List ℕ) (at m : ℕ) → at + m ≤ n → sized m (drop at (sized n s)) ≡ sized m (drop at s)
+unfolding sized
+field-sized n s at m h = cells-same m _ _ (λ k l. getD-drop at (sized n s) k 0 ∙ getD-sized n s (at + k) (omega arith) ∙ sym (getD-drop at s k 0))
+
+number-sized : (n : ℕ) (s : List ℕ) (k : ℕ) → k + 1 < n → numberAt Little (sized n s) k ≡ numberAt Little s k
+unfolding numberAt
+number-sized n s k h = λ i. pairOf Little (getD-sized n s k (omega arith) i) (getD-sized n s (k + 1) (omega arith) i)
+
+pub peer-sized : (s : List ℕ) → peerOf (sized peerOctets s) ≡ peerOf s
+unfolding peerOf
+peer-sized s =
+    same-peer _ _
+    (ap peerStageOf (getD-sized peerOctets s 0 (omega arith)))
+    (field-sized peerOctets s nameAt maxName (omega arith))
+    (number-sized peerOctets s 2 (omega arith))
+    (field-sized peerOctets s hashAt 16 (omega arith))
+    (field-sized peerOctets s authenticatorAt 16 (omega arith))
+    (field-sized peerOctets s ownAt 16 (omega arith))
+    (getD-sized peerOctets s 1 (omega arith))
+    (field-sized peerOctets s requestAt maxPacket (omega arith))
+    (number-sized peerOctets s 4 (omega arith))
+    (field-sized peerOctets s replyAt replyRoom (omega arith))
+    (number-sized peerOctets s 6 (omega arith))
 
 -- any octets decode to a state
 pub is-peer : (s : List ℕ) → IsPeer (peerOf s)

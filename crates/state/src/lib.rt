@@ -78,8 +78,8 @@ fn peer_stage_number(stage: peer::Stage) -> u8
     }
 }
 
-// The peer that octets stand for.
-pub fn decode_peer(state: &[u8]) -> Peer
+// The peer in octets of its size.
+fn peer_in(state: &[u8]) -> Peer
     ensures { λ r. ⌜ r ≡ peerOf (now (state .entry)) ⌝ }
 {
     let mut hash = [0u8; 16];
@@ -116,6 +116,16 @@ pub fn decode_peer(state: &[u8]) -> Peer
         reply,
         replylen,
     }
+}
+
+// The peer that octets stand for. In an array each field's size and place are known, and the compiler copies it at once, from the
+// caller's octets: neither the array nor the arrays of peer_in take stack.
+pub fn decode_peer(state: &[u8]) -> Peer
+    ensures { λ r. ⌜ r ≡ peerOf (now (state .entry)) ⌝ }
+{
+    let mut whole = [0u8; PEER_OCTETS];
+    octets::fill(&mut whole, state);
+    peer_in(&whole)
 }
 
 fn peer_numbers(p: Peer) -> [u8; 8]
