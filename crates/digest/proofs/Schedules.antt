@@ -52,11 +52,11 @@ next-as l m j k e =
     let d = e 16 (omega arith) (omega arith) in
     λ i. rotl 1 (bitXor (bitXor (bitXor (a i) (b i)) (c i)) (d i))
 
--- each word that was added is the next one of those before it
 last-word : (w : List ℕ) (k : ℕ) → getD (extended w (suc k)) (length w + k) 0 ≡ nextWord (extended w k) (length w + k)
 unfolding extended
 last-word w k = ap (λ (j : ℕ). getD (extended w (suc k)) j 0) (sym (length-extended w k)) ∙ getD-append-seam (extended w k) _ [] 0
 
+-- each word that was added is the next one of those before it
 extended-word : (w : List ℕ) (n k : ℕ) → 16 ≤ length w → k < n → getD (extended w n) (length w + k) 0 ≡ nextWord (extended w n) (length w + k)
 extended-word w n k h l =
     extended-front w (suc k) n (length w + k) (omega arith) (omega arith)
@@ -71,7 +71,7 @@ extended-drop w t (suc n) h =
     let e = extended-drop w t n h in
     let l = length-extended w n in
     let x : nextWord (extended (drop t w) n) (length (drop t w) + n) ≡ nextWord (extended w n) (length w + n) =
-    ap (λ (v : List ℕ). nextWord v (length (drop t w) + n)) e ∙ next-as _ _ _ _ (λ d g s. before d g s) in
+    ap (λ (v : List ℕ). nextWord v (length (drop t w) + n)) e ∙ next-as _ _ _ _ before in
     (λ i. e i ++ (x i ∷ [])) ∙ sym (drop-append-le t (extended w n) _ (omega arith))
   where
     before : (d : ℕ) → 0 < d → d ≤ 16 → getD (drop t (extended w n)) (length (drop t w) + n - d) 0 ≡ getD (extended w n) (length w + n - d) 0

@@ -1,9 +1,9 @@
 use Prim.Native.Nat.{_-_}
 use Rattle.octets.specs.declared.Order.the-variants.{Little}
 use Rattle.octets.proofs.Loops.{Turned}
+use Rattle.digest.proofs.Padding.{chains}
 use Rattle.digest.specs.Blocks.{blockAt}
 use Rattle.digest.specs.Md4.{compressed}
-use Rattle.digest.proofs.Padding.{chains}
 use Rattle.digest.proofs.md4_rounds.chain.Statement.{statement}
 use Rattle.digest.proofs.md4_rounds.chain.Tie as tie
 
