@@ -40,17 +40,10 @@ static uint8_t fresh[16];
 /* How long the packet on its way is. */
 static size_t length;
 
-static void counting_peer(void)
+static void counting(size_t copy, unsigned allowed)
 {
-    least = PEER_COPY;
-    most = PEER_MOST;
-    copies = 0;
-}
-
-static void counting_server(void)
-{
-    least = SERVER_COPY;
-    most = SERVER_MOST;
+    least = copy;
+    most = allowed;
     copies = 0;
 }
 
@@ -70,21 +63,21 @@ static void start(const uint8_t *hash, unsigned retries)
 {
     zt_peer_new(peer, sizeof peer, NAME, sizeof NAME, hash, 16);
     zt_server_new(server, sizeof server);
-    counting_server();
+    counting(SERVER_COPY, SERVER_MOST);
     done("server, start", zt_server_start(server, sizeof server, 1, CHALLENGE, 16, NAME, sizeof NAME, retries,
                                           request, sizeof request), ZT_WRITTEN);
 }
 
 static void to_peer(const char *call, unsigned number)
 {
-    counting_peer();
+    counting(PEER_COPY, PEER_MOST);
     done(call, zt_peer_step(peer, sizeof peer, request, length, RANDOM, 16, reply, sizeof reply), number);
 }
 
 static void to_server(const char *call, unsigned number)
 {
     fresh[0]++;
-    counting_server();
+    counting(SERVER_COPY, SERVER_MOST);
     done(call, zt_server_packet(server, sizeof server, reply, length, TABLE, sizeof TABLE, fresh, 16,
                                 request, sizeof request), number);
 }
@@ -107,15 +100,15 @@ static void wrong_passwords(void)
     uint8_t waiting[ZT_PEER_OCTETS];
     start(WRONG_HASH, 1);
     to_peer("peer, Challenge", ZT_WRITTEN);
-    counting_server();
+    counting(SERVER_COPY, SERVER_MOST);
     done("server, resend", zt_server_resend(server, sizeof server, request, sizeof request), ZT_WRITTEN);
     to_peer("peer, the Challenge again", ZT_WRITTEN);
     to_server("server, wrong Response, a retry left", ZT_WRITTEN);
     to_peer("peer, Failure Request, R=1", ZT_NEEDS_CREDENTIALS);
     memcpy(waiting, peer, sizeof peer);
-    counting_peer();
+    counting(PEER_COPY, PEER_MOST);
     done("peer, give up", zt_peer_give_up(waiting, sizeof waiting), ZT_ENDED);
-    counting_peer();
+    counting(PEER_COPY, PEER_MOST);
     done("peer, supply", zt_peer_supply(peer, sizeof peer, NAME, sizeof NAME, WRONG_HASH, 16, RANDOM, 16,
                                         reply, sizeof reply), ZT_WRITTEN);
     to_server("server, wrong Response, no retry left", ZT_WRITTEN);
