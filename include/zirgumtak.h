@@ -58,8 +58,8 @@ extern "C" {
  * Version: major * 10000 + minor * 100 + patch. zt_version gives that of the archive that is
  * linked, and nothing else: it is no answer's word.
  */
-#define ZT_VERSION 200
-#define ZT_VERSION_TEXT "0.2.0"
+#define ZT_VERSION 300
+#define ZT_VERSION_TEXT "0.3.0"
 uint64_t zt_version(void);
 
 /*
@@ -102,7 +102,7 @@ uint64_t zt_version(void);
  * A buffer of a fixed size (a state, hash, challenge, random octets, NT-Response, key, block,
  * digest) that comes with another length is refused with ZT_BAD_ARGUMENT before all else.
  */
-#define ZT_PEER_OCTETS 1647
+#define ZT_PEER_OCTETS 1667
 #define ZT_SERVER_OCTETS 304
 
 #define ZT_HASH_OCTETS 16          /* password hash: MD4 of the UTF-16 password */
@@ -143,6 +143,11 @@ uint64_t zt_version(void);
  *        56     256  name
  *       312    1020  last answered request (ZT_PEER_WAITING: the Failure Request to be answered)
  *      1332     315  last reply, to that request (ZT_PEER_WAITING: to the one before it)
+ *      1647      20  authenticator string that is to answer the last Response
+ *
+ * The string is computed when a Response is made, and a Success Request is compared with what stands
+ * here. In a state that zt_peer_new made and the calls left that is the right string; in any other
+ * state these octets count as the right one, zeros too.
  */
 #define ZT_PEER_BEGIN 0
 #define ZT_PEER_CHALLENGE_RESPONSE_SENT 1

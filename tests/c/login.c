@@ -29,6 +29,8 @@ static const uint8_t CHALLENGE[] = {0x5B, 0x5D, 0x7C, 0x7D, 0x7B, 0x3F, 0x2F, 0x
 static const uint8_t PEER_CHALLENGE[] = {0x21, 0x40, 0x23, 0x24, 0x25, 0x5E, 0x26, 0x2A, 0x28, 0x29, 0x5F, 0x2B, 0x3A, 0x33, 0x7C, 0x7E};
 static const uint8_t NT_RESPONSE[] = {0x82, 0x30, 0x9E, 0xCD, 0x8D, 0x70, 0x8B, 0x5E, 0xA0, 0x8F, 0xAA, 0x39,
                                       0x81, 0xCD, 0x83, 0x54, 0x42, 0x33, 0x11, 0x4A, 0x3D, 0x85, 0xD6, 0xDF};
+static const uint8_t STRING[] = {0x40, 0x7A, 0x55, 0x89, 0x11, 0x5F, 0xD0, 0xD6, 0x20, 0x9F,
+                                 0x51, 0x0F, 0xE9, 0xC0, 0x45, 0x66, 0x93, 0x2C, 0xDA, 0x56};
 static const uint8_t SUCCESS_MESSAGE[] = "S=407A5589115FD0D6209F510FE9C04566932CDA56 M=";
 static const uint8_t WRONG_HASH[16] = {1};
 static const uint8_t FRESH[16] = {2};
@@ -38,6 +40,8 @@ static const uint8_t TABLE[] = {26, 0, 1, 0, 0, 0, 0x44, 0xEB, 0xBA, 0x8D, 0x53,
                                 0x47, 0x44, 0x11, 0xF5, 0x69, 0x89, 0xAE, 'U', 's', 'e', 'r'};
 
 static uint8_t peer[ZT_PEER_OCTETS], server[ZT_SERVER_OCTETS];
+/* The string that the peer keeps. */
+static uint8_t *const KEPT = peer + 1647;
 /* What each end wrote last. */
 static uint8_t request[ZT_SERVER_ROOM], reply[ZT_PEER_ROOM];
 
@@ -69,6 +73,7 @@ static void right_password(void)
     ANSWERS(new_peer(HASH), ZT_WRITTEN, 0);
     ANSWERS(start(0), ZT_WRITTEN, 31);
     ANSWERS(to_peer(31), ZT_WRITTEN, 68);
+    EXPECT(memcmp(KEPT, STRING, sizeof STRING) == 0);
     EXPECT(memcmp(reply + 34, NT_RESPONSE, sizeof NT_RESPONSE) == 0);
     EXPECT(memcmp(reply + 59, NAME, sizeof NAME) == 0);
     ANSWERS(to_server(68), ZT_WRITTEN, 54);
@@ -98,6 +103,25 @@ static void success_without_a_message(void)
     ANSWERS(to_server(6), ZT_AUTHENTICATED, 4);
     ANSWERS(to_peer(4), ZT_AUTHENTICATED, 0);
     EXPECT(ZT_PEER_STAGE(peer) == ZT_PEER_SUCCESS);
+}
+
+/* In a state handed in the kept octets are the right string, zeros too. */
+static void other_string_kept(void)
+{
+    ANSWERS(new_peer(HASH), ZT_WRITTEN, 0);
+    ANSWERS(start(0), ZT_WRITTEN, 31);
+    ANSWERS(to_peer(31), ZT_WRITTEN, 68);
+    ANSWERS(to_server(68), ZT_WRITTEN, 54);
+    memset(KEPT, 0, sizeof STRING);
+    memset(request + 11, '0', 2 * sizeof STRING);
+    ANSWERS(to_peer(54), ZT_WRITTEN, 6);
+    ANSWERS(new_peer(HASH), ZT_WRITTEN, 0);
+    ANSWERS(start(0), ZT_WRITTEN, 31);
+    ANSWERS(to_peer(31), ZT_WRITTEN, 68);
+    ANSWERS(to_server(68), ZT_WRITTEN, 54);
+    KEPT[19] ^= 1;
+    ANSWERS(to_peer(54), ZT_ENDED, 0);
+    EXPECT(ZT_PEER_STAGE(peer) == ZT_PEER_FAILED);
 }
 
 /* A wrong password, and then the right one: what was lost comes again. */
@@ -194,8 +218,6 @@ static void without_a_state(void)
     static const uint8_t key[] = {0x13, 0x34, 0x57, 0x79, 0x9B, 0xBC, 0xDF, 0xF1};
     static const uint8_t block[] = {0x01, 0x23, 0x45, 0x67, 0x89, 0xAB, 0xCD, 0xEF};
     static const uint8_t enciphered[] = {0x85, 0xE8, 0x13, 0x54, 0x0F, 0x0A, 0xB4, 0x05};
-    static const uint8_t string[] = {0x40, 0x7A, 0x55, 0x89, 0x11, 0x5F, 0xD0, 0xD6, 0x20, 0x9F,
-                                     0x51, 0x0F, 0xE9, 0xC0, 0x45, 0x66, 0x93, 0x2C, 0xDA, 0x56};
     static const uint8_t eap_success[] = {3, 5, 0, 4};
     uint8_t out[24];
     ANSWERS(zt_md4(abc, sizeof abc, out, ZT_MD4_OCTETS), 0, 0);
@@ -210,7 +232,7 @@ static void without_a_state(void)
     EXPECT(memcmp(out, NT_RESPONSE, sizeof NT_RESPONSE) == 0);
     ANSWERS(zt_authenticator(HASH, 16, NT_RESPONSE, sizeof NT_RESPONSE, PEER_CHALLENGE, 16, CHALLENGE, 16,
                              USER, USER_LEN, out, ZT_AUTHENTICATOR_OCTETS), 0, 0);
-    EXPECT(memcmp(out, string, sizeof string) == 0);
+    EXPECT(memcmp(out, STRING, sizeof STRING) == 0);
     ANSWERS(zt_read(0, eap_success, sizeof eap_success), 0, 0);
     ANSWERS(zt_read(1, eap_success, sizeof eap_success), ZT_BAD_CODE, 0);
     ANSWERS(zt_read(2, eap_success, sizeof eap_success), ZT_BAD_ARGUMENT, 0);
@@ -223,6 +245,7 @@ int main(void)
 {
     right_password();
     success_without_a_message();
+    other_string_kept();
     second_try();
     wrong_password();
     refusals();

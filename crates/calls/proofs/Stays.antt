@@ -8,6 +8,7 @@ use Rattle.octets.specs.Choice.{pick}
 use Rattle.octets.proofs.Exits.{arms}
 use Rattle.answer.specs.Outcome.{Outcome, refused}
 use Rattle.peer.specs.declared.Peer.{Peer}
+use Rattle.peerlaws.specs.Runs.{callOf}
 use Rattle.server.specs.State.{initial as initial-server}
 use Rattle.server.specs.Runs.{starts, brings, resends}
 use Rattle.state.specs.PeerOctets.{peerOf, octetsOfPeer}
@@ -40,7 +41,7 @@ alone-stays true o p s e h = arms (λ (l : List ℕ). l ≡ s) (ltb (o .number) 
 alone-stays false o p s e h = refl
 
 pub peer-stays : PeerStays
-unfolding peerNewAt peerStepAt peerSupplyAt peerGiveUpAt
+unfolding peerNewAt peerStepAt peerSupplyAt peerGiveUpAt callOf
 peer-stays s (makes name hash) z h = new-stays (isPeer s) (isSixteen hash) _ (peerOf s) s (peer-octets-back s z) h
 peer-stays s (steps packet random reply) z h = stays octetsOfPeer (isPeer s) (isSixteen random) _ (peerOf s) s reply (peer-octets-back s z) h
 peer-stays s (supplies name hash random reply) z h = stays octetsOfPeer (isPeer s) (isSixteen hash && isSixteen random) _ (peerOf s) s reply (peer-octets-back s z) h

@@ -9,7 +9,10 @@ use Rattle.octets.specs.Lists.{over}
 use Rattle.answer.specs.Outcome.{Outcome, outcome, refused}
 use Rattle.answer.specs.Runs.{run}
 use Rattle.peer.specs.declared.Peer.{Peer}
-use Rattle.peer.specs.Calls.{newOf, stepOf, supplyOf, giveUpOf}
+use Rattle.peer.specs.Calls.{newOf}
+use Rattle.peerlaws.specs.Runs as peer
+use Rattle.peerlaws.specs.Runs.{step, supply, giveUp, callOf}
+use Rattle.peerlaws.specs.Expected.{computing}
 use Rattle.server.specs.declared.Server.{Server}
 use Rattle.server.specs.State.{initial}
 use Rattle.server.specs.Runs.{Call, starts, brings, resends, replyOf, outcomeOf}
@@ -60,14 +63,25 @@ peerCallAt s (supplies name hash random reply) = peerSupplyAt s name hash random
 peerCallAt s givesUp = peerGiveUpAt s
 
 -- by value, sixteen octets are sixteen; other sizes are 23
+abbrev pub peerCallBy : (Peer → peer.Call → Outcome Peer) → Peer → PeerCall → Outcome Peer
+peerCallBy call p (makes name hash) = pick (isSixteen hash) (newOf name hash) (refused 23 p)
+peerCallBy call p (steps packet random reply) = pick (isSixteen random) (call p (step packet random (length reply))) (refused 23 p)
+peerCallBy call p (supplies name hash random reply) = pick (isSixteen hash && isSixteen random) (call p (supply name hash random (length reply))) (refused 23 p)
+peerCallBy call p givesUp = call p giveUp
+
 abbrev pub peerCall : Peer → PeerCall → Outcome Peer
-peerCall p (makes name hash) = pick (isSixteen hash) (newOf name hash) (refused 23 p)
-peerCall p (steps packet random reply) = pick (isSixteen random) (stepOf p packet random (length reply)) (refused 23 p)
-peerCall p (supplies name hash random reply) = pick (isSixteen hash && isSixteen random) (supplyOf p name hash random (length reply)) (refused 23 p)
-peerCall p givesUp = giveUpOf p
+peerCall p c = peerCallBy callOf p c
 
 abbrev pub PeerCarried : Type 0
 PeerCarried = Carried peerOf peerOctets peerCallAt peerCall peerReply
+
+-- 02 [6], "all answers stay as they are", at the boundary: any list of calls that begins by making a peer shows the words, the whole buffers and
+-- the states of the peer that computes the string when a Success Request comes
+abbrev pub AnswersStayAt : Type 0
+AnswersStayAt =
+    (name hash : List ℕ) (cs : List PeerCall) (s : List ℕ) → length s ≡ peerOctets → length hash ≡ 16 →
+    map (shownAt peerOf) (runAt peerCallAt s (makes name hash ∷ cs))
+    ≡ run (λ v. v .state) (λ p c. shown (peerCallBy computing p c) (peerReply c)) (peerOf s) (makes name hash ∷ cs)
 
 -- ---- the server: a call on a state, or a new server in its place
 pub data ServerCall (T : Type 0) : Type 0 where

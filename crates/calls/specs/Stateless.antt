@@ -19,9 +19,9 @@ use Rattle.des.specs.Des.{enciphered}
 use Rattle.mschap.specs.Answers.{passwordHashTold, ntResponseTold, authenticatorTold}
 use Rattle.calls.specs.Done.{wordOf, Made, made, givenBy, wrote}
 
--- the version of the calls, 0.2.0: major * 10000 + minor * 100 + patch
+-- the version of the calls, 0.3.0: major * 10000 + minor * 100 + patch
 abbrev pub version : ℕ
-version = 200
+version = 300
 
 -- for an end that is none, 23 after 10 to 12, which are the same for both ends; t is L, or one of those
 unfoldable pub withoutEnd : Told ℕ → ℕ

@@ -297,7 +297,7 @@ pub fn server_resend(state: &[u8], reply: &mut [u8]) -> u64
 pub fn version() -> u64
     ensures { λ r. ⌜ r ≡ version ⌝ }
 {
-    200
+    300
 }
 
 fn read_word(x: Reading) -> u64

@@ -30,10 +30,9 @@ use Rattle.mschap.specs.Responses.{digitsOf}
 use Rattle.peer.specs.declared.Peer.{Peer}
 use Rattle.peer.specs.declared.Stage.the-variants.{Begin, ChallengeResponseSent, SuccessResponseSent, FailureResponseSent, Success, Failed}
 use Rattle.peer.specs.State.{ownName, lastId, responseTo, rightDigits, initial, staged, answered, responded, awaiting}
-use Rattle.peer.specs.Calls.{renewedIn, stepOf}
+use Rattle.peer.specs.Calls.{renewedIn, responseIn, stepOf}
 use Rattle.peer.proofs.Replies.{length-response-to}
 use Rattle.server.specs.State.{chapOf}
-use Rattle.peerlaws.specs.Exact.{responseIn}
 use Rattle.peerlaws.proofs.Forward.{responds-so, any-tail-taken, succeeds-so, waits-so, fails-so, ends-so}
 
 -- ---- a Challenge, at a made peer

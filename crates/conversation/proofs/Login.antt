@@ -13,7 +13,7 @@ use Rattle.packet.proofs.Sizes.{length-challengePacket}
 use Rattle.peer.specs.declared.Peer.{Peer}
 use Rattle.peer.specs.declared.Stage.the-variants as peer-stage
 use Rattle.peer.specs.State as peer
-use Rattle.peer.specs.State.{ownName, lastRequest, lastId, responseTo, digitsTo, rightDigits}
+use Rattle.peer.specs.State.{ownName, lastRequest, lastId, responseTo, stringTo}
 use Rattle.peer.specs.Calls.{stepOf}
 use Rattle.server.specs.declared.Server.{Server}
 use Rattle.server.specs.State as server
@@ -59,9 +59,9 @@ module _ (l : Login) (f : Fits l) where
   unfolding lastId lastRequest responding peer.responded challengeOf challengePacket chapPacket header
   asked-id = stored-octet 1 (challengeOf l) (l .id .0) (omega (arith, length-challengePacket (l .id .0) (chapOf (l .id) .0) (l .challenge) (l .server) (f .challenge), f .server-few)) refl
 
-  right-digits : rightDigits (responding l) ≡ digitsTo (l .challenge) (l .credentials .random) (l .credentials .name) (l .credentials .hash)
-  unfolding rightDigits responding peer.responded peer.initial ownName
-  right-digits = ap (λ (n : List ℕ). digitsTo (l .challenge) (l .credentials .random) n (l .credentials .hash)) (take-sized 256 (l .credentials .name) (f .credentials .name))
+  expects : responding l .challenges .expected ≡ stringTo (l .challenge) (l .credentials .random) (l .credentials .name) (l .credentials .hash)
+  unfolding responding peer.responded peer.initial ownName
+  expects = ap (λ (n : List ℕ). stringTo (l .challenge) (l .credentials .random) n (l .credentials .hash)) (take-sized 256 (l .credentials .name) (f .credentials .name))
 
   pub begun-pending : Pending first (l .credentials)
   unfolding challenging server.asked responding peer.responded responseOf ntResponseOf
@@ -71,7 +71,7 @@ module _ (l : Login) (f : Fits l) where
     server-here = refl;
     peer-here = refl;
     id = asked-id;
-    digits = right-digits;
+    expected = expects;
     response = refl;
   }
 

@@ -17,7 +17,7 @@ use Rattle.peer.specs.declared.Peer.{Peer}
 use Rattle.peer.specs.declared.Stage.{Stage}
 use Rattle.peer.specs.declared.Stage.the-variants as peer-stage
 use Rattle.peer.specs.State as peer
-use Rattle.peer.specs.State.{lastRequest, lastId, digitsTo, rightDigits}
+use Rattle.peer.specs.State.{lastRequest, lastId, stringTo, rightDigits}
 use Rattle.peer.specs.Calls.{stepOf}
 use Rattle.server.specs.declared.Server.{Server}
 use Rattle.server.specs.declared.Stage.the-variants as stage
@@ -36,7 +36,7 @@ pub record Pending (b : Ends) (c : Credentials) : Type 0 where
   pub server-here : b .server .stage ≡ stage.ChallengeSent
   pub peer-here : b .peer .stage ≡ peer-stage.ChallengeResponseSent
   pub id : lastId (b .peer) ≡ b .server .request .id .0
-  pub digits : rightDigits (b .peer) ≡ digitsTo (b .server .request .challenge) (c .random) (c .name) (c .hash)
+  pub expected : b .peer .challenges .expected ≡ stringTo (b .server .request .challenge) (c .random) (c .name) (c .hash)
   pub response : b .response ≡ responsePacket (b .server .request .id .0) (b .server .request .chapid .0) (c .random) (ntResponse (b .server .request .challenge) (c .random) (userOf (c .name)) (c .hash)) (c .name)
 
 -- the next Identifier is another
@@ -82,8 +82,8 @@ module _ (l : Login) (b : Ends) (c : Credentials) (f : Fits l) (t : Pending b c)
       ∙ response-granted s (c .random) (c .name) (c .hash) (l .at-response .padding) (l .at-response .table) (l .at-response .fresh) (l .at-response .room) (t .named) (t .own) (t .server-here) (a .formed) 0 (a .account) refl (a .request-room)
 
   digits-so : rightDigits (b .peer) ≡ digitsOf string
-  unfolding digitsTo
-  digits-so = t .digits
+  unfolding rightDigits stringTo
+  digits-so = ap digitsOf (t .expected)
 
   pub confirms-so : replied l b ≡ outcome 0 (successResponse (next .0)) confirmed
   unfolding replied

@@ -6,7 +6,6 @@ use native.Mathlib.Omega.{arith}
 use lib.ListN.{length, getD}
 use Rattle.octets.specs.Octets.{AreOctets, decimal}
 use Rattle.octets.proofs.Decimals.{few-decimal}
-use Rattle.octets.proofs.Lists.{take-sized}
 use Rattle.answer.specs.Outcome.{Outcome, outcome}
 use Rattle.answer.specs.declared.Identifier.{Identifier}
 use Rattle.packet.specs.Forms.{header, chapPacket, responsePacket, failureRequest, failureResponse, eapFailure}
@@ -16,7 +15,7 @@ use Rattle.mschap.specs.Responses.{ntResponse}
 use Rattle.peer.specs.declared.Peer.{Peer}
 use Rattle.peer.specs.declared.Stage.the-variants as peer-stage
 use Rattle.peer.specs.State as peer
-use Rattle.peer.specs.State.{ownName, lastRequest, lastId, lastChapId, responseTo, digitsTo, rightDigits}
+use Rattle.peer.specs.State.{lastRequest, lastId, lastChapId, responseTo}
 use Rattle.peer.specs.Calls.{stepOf, responseBy, supplyOf}
 use Rattle.peer.proofs.Replies.{length-response-to}
 use Rattle.server.specs.declared.Server.{Server}
@@ -116,19 +115,15 @@ module _ (b : Ends) (c : Credentials) (t : Try) (here : Pending b c) (w : WrongT
   unfolding lastId lastRequest peer.supplied peer.awaiting
   answering-id = stored-octet 1 request (next .0) (short _ _ 691 1 fresh) (request-id _ _ 691 1 fresh)
 
-  answering-digits : rightDigits answering ≡ digitsTo fresh (d .random) (d .name) (d .hash)
-  unfolding rightDigits ownName peer.supplied peer.awaiting
-  answering-digits = ap (λ (n : List ℕ). digitsTo fresh (d .random) n (d .hash)) (take-sized 256 (d .name) (w .credentials .name))
-
   tried-pending : Pending there d
-  unfolding server.asked peer.supplied responseTo
+  unfolding server.asked peer.supplied peer.awaiting responseTo
   tried-pending = record {
     named = w .credentials .name;
     own = w .credentials .random;
     server-here = here .server-here;
     peer-here = refl;
     id = answering-id;
-    digits = answering-digits;
+    expected = refl;
     response = refl;
   }
 

@@ -19,7 +19,7 @@ use Rattle.packet.specs.Forms.{challengePacket, chapPacket, header, successResp
 use Rattle.packet.proofs.Back.{learns, challenge-back, success-response-back}
 use Rattle.writers.proofs.Writing.{writing-so}
 use Rattle.mschap.specs.Users.{userOf, userStart, startFrom}
-use Rattle.peer.specs.Calls.{stepOf, readOf}
+use Rattle.peer.specs.Calls.{stepBy, stepOf, readBy}
 use Rattle.server.specs.declared.Server.{Server}
 use Rattle.server.specs.declared.Stage.the-variants as stage
 use Rattle.server.specs.State.{staged}
@@ -29,7 +29,7 @@ use Rattle.server.proofs.Forward.{confirms-so, confirmed}
 use Rattle.marked.specs.Marked.{AtPeer, AtServer, AtBoth, frz, IsWritten, Marked}
 
 at-peer : (x : List ℕ) (k : ℕ) → readPacket end.Peer x ≡ refusal k → eqb k 0 ≡ false → AtPeer x k
-unfolding stepOf readOf
+unfolding stepOf stepBy readBy
 at-peer x k e z = record { reads = e; steps = λ p random room. rw e (pick-false _ _ _ z) }
 
 at-server : (x : List ℕ) (k : ℕ) → readPacket end.Server x ≡ refusal k → eqb k 0 ≡ false → AtServer x k

@@ -18,7 +18,11 @@ use answer::Identifier;
 use answer::Refusal;
 use octets::Order;
 
-// Where a packet's name or text starts.
+// Where the parts of a packet start: challenges, the NT-Response, names and texts.
+pub const CHALLENGE_AT: usize = 10;
+
+pub const NT_RESPONSE_AT: usize = 34;
+
 pub const CHALLENGE_NAME_AT: usize = 26;
 
 pub const RESPONSE_NAME_AT: usize = 59;
@@ -32,9 +36,15 @@ const MAX_RESPONSE: usize = RESPONSE_NAME_AT + answer::MAX_NAME;
 
 const NOWHERE: Place = Place { start: 0, len: 0 };
 
-const CHALLENGE: Place = Place { start: 10, len: 16 };
+const CHALLENGE: Place = Place {
+    start: CHALLENGE_AT,
+    len: 16,
+};
 
-const NT_RESPONSE: Place = Place { start: 34, len: 24 };
+const NT_RESPONSE: Place = Place {
+    start: NT_RESPONSE_AT,
+    len: 24,
+};
 
 const STRING: Place = Place { start: 11, len: 40 };
 

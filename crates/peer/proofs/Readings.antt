@@ -14,18 +14,18 @@ use Rattle.packet.specs.declared.Reading.{Reading}
 use Rattle.packet.specs.declared.Reading.the-variants as reading
 use Rattle.packet.specs.Reader.{toldReading}
 use Rattle.peer.specs.declared.Peer.{Peer}
-use Rattle.peer.specs.Calls.{takenOf, readOf}
+use Rattle.peer.specs.Calls.{takenBy, readBy}
 
 pub front : (r s : List ℕ) (n m : ℕ) → r ≡ take n s → n ≤ m → length r ≤ m
 front r s n m e h = rw e (omega (arith, length-take n s))
 
-pub reading-refused : (x : Reading) (why : Refusal) (p : Peer) (s random : List ℕ) (room : ℕ) → x ≡ reading.Refused why → readOf (toldReading x) p s random room ≡ refused (refusalOf why) p
-unfolding readOf
-reading-refused x why p s random room e = rw e (pick-false _ _ _ (refusal-some why))
+pub reading-refused : (right : List ℕ) (x : Reading) (why : Refusal) (p : Peer) (s random : List ℕ) (room : ℕ) → x ≡ reading.Refused why → readBy right (toldReading x) p s random room ≡ refused (refusalOf why) p
+unfolding readBy
+reading-refused right x why p s random room e = rw e (pick-false _ _ _ (refusal-some why))
 
-pub reading-read : (x : Reading) (k : Packet) (p : Peer) (s random : List ℕ) (room : ℕ) → x ≡ reading.Read k → readOf (toldReading x) p s random room ≡ takenOf p k (take (k .length) s) random room
-unfolding readOf
-reading-read x k p s random room e = rw e (pick-true _ _ _ refl)
+pub reading-read : (right : List ℕ) (x : Reading) (k : Packet) (p : Peer) (s random : List ℕ) (room : ℕ) → x ≡ reading.Read k → readBy right (toldReading x) p s random room ≡ takenBy right p k (take (k .length) s) random room
+unfolding readBy
+reading-read right x k p s random room e = rw e (pick-true _ _ _ refl)
 
 pub reading-within : (x : Reading) (k : Packet) (m : ℕ) → x ≡ reading.Read k → toldReading x .value .length ≤ m → k .length ≤ m
 reading-within x k m e h = rw e at h

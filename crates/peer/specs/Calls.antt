@@ -17,9 +17,8 @@ use Rattle.peer.specs.declared.Stage.{Stage}
 use Rattle.peer.specs.declared.Stage.the-variants.{Begin, SuccessResponseSent, FailureResponseSent, Success, Failed}
 use Rattle.peer.specs.declared.Move.{Move}
 use Rattle.peer.specs.declared.Move.the-variants.{NotTaken, WrongIdentifier, Again, Respond, Confirm, Fail, Wait, Succeed, End}
-use Rattle.peer.specs.declared.Keys.{Keys}
 use Rattle.peer.specs.declared.Peer.{Peer}
-use Rattle.peer.specs.State.{ownName, lastRequest, lastReply, lastId, lastChapId, responseTo, digitsTo, initial, staged, answered, responded, awaiting, supplied}
+use Rattle.peer.specs.State.{ownName, lastRequest, lastReply, lastId, lastChapId, responseTo, rightDigits, initial, staged, answered, responded, awaiting, supplied}
 use Rattle.peer.specs.Moves.{waiting, turnOf}
 
 -- ---- made from name and hash: 0, or 23 and a FAILED peer, all else zero
@@ -44,23 +43,23 @@ says n = outcome n [] tt
 abbrev pub writes : List ℕ → Outcome (Unit {0})
 writes w = outcome 0 w tt
 
--- to a Success Request, right string or other string
-unfoldable pub confirmation : Packet → List ℕ → Keys → List ℕ → Outcome (Unit {0})
-confirmation k q keys name =
-    pick (same (digitsIn k q) (digitsTo (keys .authenticator) (keys .own) name (keys .hash))) (writes (successResponse (k .id .0)))
+-- to a Success Request, right string or other string: `right` has the right one's digits
+unfoldable pub confirmation : Packet → List ℕ → List ℕ → Outcome (Unit {0})
+confirmation k q right =
+    pick (same (digitsIn k q) right) (writes (successResponse (k .id .0)))
     (says 3)
 
--- the keys, the name and `last`, the stored reply, are the state's
-unfoldable pub answerOf : Move → Packet → List ℕ → List ℕ → Keys → List ℕ → List ℕ → Outcome (Unit {0})
-answerOf NotTaken k q random keys name last = says 19
-answerOf WrongIdentifier k q random keys name last = says 18
-answerOf Again k q random keys name last = writes last
-answerOf Respond k q random keys name last = writes (responseTo (k .id .0) (k .chapid .0) (challengeIn k q) random name (keys .hash))
-answerOf Confirm k q random keys name last = confirmation k q keys name
-answerOf Fail k q random keys name last = writes (failureResponse (k .id .0))
-answerOf Wait k q random keys name last = says 1
-answerOf Succeed k q random keys name last = says 2
-answerOf End k q random keys name last = says 3
+-- `response` is the Response, were the packet a Challenge; `last` is the stored reply
+unfoldable pub answerOf : Move → Packet → List ℕ → List ℕ → List ℕ → List ℕ → Outcome (Unit {0})
+answerOf NotTaken k q response right last = says 19
+answerOf WrongIdentifier k q response right last = says 18
+answerOf Again k q response right last = writes last
+answerOf Respond k q response right last = writes response
+answerOf Confirm k q response right last = confirmation k q right
+answerOf Fail k q response right last = writes (failureResponse (k .id .0))
+answerOf Wait k q response right last = says 1
+answerOf Succeed k q response right last = says 2
+answerOf End k q response right last = says 3
 
 -- ---- what a number leaves, where w is the reply
 -- 0: the next state. A repeat changes nothing
@@ -83,31 +82,39 @@ leftBy n m k q random w p =
     (pick (eqb n 3) (staged Failed p)
     p)))
 
--- ---- a move: its answer a and what that leaves, or 20
+-- ---- a move: its answer a and what that leaves, or 20. `right` has the digits that a Success Request is held against
 abbrev pub leaving : Outcome (Unit {0}) → Move → Packet → List ℕ → List ℕ → Peer → Outcome Peer
 leaving a m k q random p = outcome (a .number) (a .octets) (leftBy (a .number) m k q random (a .octets) p)
 
-abbrev pub keysOf : Peer → Keys
-keysOf p = record { authenticator = p .challenges .authenticator; own = p .challenges .own; hash = p .credentials .hash }
+-- the Response to the Challenge q
+abbrev pub responseIn : Peer → Packet → List ℕ → List ℕ → List ℕ
+responseIn p k q random = responseTo (k .id .0) (k .chapid .0) (challengeIn k q) random (ownName p) (p .credentials .hash)
 
-unfoldable pub movedOf : Move → Peer → Packet → List ℕ → List ℕ → ℕ → Outcome Peer
-movedOf m p k q random room = fitting room p (leaving (answerOf m k q random (keysOf p) (ownName p) (lastReply p)) m k q random p)
+unfoldable pub movedBy : List ℕ → Move → Peer → Packet → List ℕ → List ℕ → ℕ → Outcome Peer
+movedBy right m p k q random room = fitting room p (leaving (answerOf m k q (responseIn p k q random) right (lastReply p)) m k q random p)
 
 -- the turn that a packet brings, where `last` is the last answered request. Its Identifier is octet 1
 unfoldable pub turnIn : Stage → Packet → List ℕ → List ℕ → Move
 turnIn stage k q last = turnOf stage (k .kind) (same q last) (octetIs last 1 (k .id .0))
 
-unfoldable pub takenOf : Peer → Packet → List ℕ → List ℕ → ℕ → Outcome Peer
-takenOf p k q random room = movedOf (turnIn (p .stage) k q (lastRequest p)) p k q random room
+unfoldable pub takenBy : List ℕ → Peer → Packet → List ℕ → List ℕ → ℕ → Outcome Peer
+takenBy right p k q random room = movedBy right (turnIn (p .stage) k q (lastRequest p)) p k q random room
 
 -- 10 to 17, then the packet, whose octets after L are padding
-unfoldable pub readOf : Told Packet → Peer → List ℕ → List ℕ → ℕ → Outcome Peer
-readOf t p s random room =
-    pick (eqb (t .number) 0) (takenOf p (t .value) (take (t .value .length) s) random room)
+unfoldable pub readBy : List ℕ → Told Packet → Peer → List ℕ → List ℕ → ℕ → Outcome Peer
+readBy right t p s random room =
+    pick (eqb (t .number) 0) (takenBy right p (t .value) (take (t .value .length) s) random room)
     (refused (t .number) p)
 
+unfoldable pub stepBy : List ℕ → Peer → List ℕ → List ℕ → ℕ → Outcome Peer
+stepBy right p s random room = readBy right (readPacket end.Peer s) p s random room
+
+-- a Success Request is held against the kept octets
+abbrev pub movedOf : Move → Peer → Packet → List ℕ → List ℕ → ℕ → Outcome Peer
+movedOf m p k q random room = movedBy (rightDigits p) m p k q random room
+
 unfoldable pub stepOf : Peer → List ℕ → List ℕ → ℕ → Outcome Peer
-stepOf p s random room = readOf (readPacket end.Peer s) p s random room
+stepOf p s random room = stepBy (rightDigits p) p s random room
 
 -- ---- the two calls of WAITING: 19, 23, 20
 -- "a Response to C follows, under the kept request's Identifier and MS-CHAPv2-ID"

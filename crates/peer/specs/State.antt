@@ -42,32 +42,36 @@ unfoldable pub responseTo : ℕ → ℕ → List ℕ → List ℕ → List ℕ �
 responseTo id chapid authenticator own name hash =
     responsePacket id chapid own (ntResponse authenticator own (userOf name) hash) name
 
--- the string that answers the Response, as 40 digits
-unfoldable pub digitsTo : List ℕ → List ℕ → List ℕ → List ℕ → List ℕ
-digitsTo authenticator own name hash =
-    digitsOf (authenticatorOf hash (ntResponse authenticator own (userOf name) hash) own authenticator (userOf name))
+-- the authenticator string that is to answer it
+unfoldable pub stringTo : List ℕ → List ℕ → List ℕ → List ℕ → List ℕ
+stringTo authenticator own name hash =
+    authenticatorOf hash (ntResponse authenticator own (userOf name) hash) own authenticator (userOf name)
 
 -- the outstanding Response
 unfoldable pub outstanding : Peer → List ℕ
 outstanding p = responseTo (lastId p) (p .challenges .chapid .0) (p .challenges .authenticator) (p .challenges .own) (ownName p) (p .credentials .hash)
 
--- "The peer's right string is the one so computed from its own hash and its outstanding Response"
+-- "The peer's right string is the one so computed from its own hash and its outstanding Response."
+unfoldable pub computedString : Peer → List ℕ
+computedString p = stringTo (p .challenges .authenticator) (p .challenges .own) (ownName p) (p .credentials .hash)
+
+-- 02 [6]: "the kept octets are the right string", here as 40 digits
 unfoldable pub rightDigits : Peer → List ℕ
-rightDigits p = digitsTo (p .challenges .authenticator) (p .challenges .own) (ownName p) (p .credentials .hash)
+rightDigits p = digitsOf (p .challenges .expected)
 
 -- ---- states after a move: "a move changes only what it names; fields not yet set are zero"
 abbrev pub credentialsOf : List ℕ → List ℕ → Credentials
 credentialsOf name hash = record { name = sized maxName name; namelen = length name; hash = hash }
 
-abbrev pub challengesOf : List ℕ → List ℕ → ChapId → Challenges
-challengesOf authenticator own chapid = record { authenticator = authenticator; own = own; chapid = chapid }
+abbrev pub challengesOf : List ℕ → List ℕ → ChapId → List ℕ → Challenges
+challengesOf authenticator own chapid expected = record { authenticator = authenticator; own = own; chapid = chapid; expected = expected }
 
 -- a made peer, and the FAILED one that stands beside number 23
 unfoldable pub initial : Stage → List ℕ → List ℕ → Peer
 initial stage name hash = record {
   stage = stage;
   credentials = credentialsOf name hash;
-  challenges = challengesOf (replicate 16 0) (replicate 16 0) (record { 0 = 0 });
+  challenges = challengesOf (replicate 16 0) (replicate 16 0) (record { 0 = 0 }) (replicate 20 0);
   request = replicate maxPacket 0;
   requestlen = 0;
   reply = replicate replyRoom 0;
@@ -99,13 +103,14 @@ answered stage q w p = atStage stage (p .credentials) (p .challenges) (withReque
 
 -- the Challenge q was answered by the Response w
 unfoldable pub responded : List ℕ → List ℕ → ChapId → List ℕ → List ℕ → Peer → Peer
-responded authenticator own chapid q w p = atStage ChallengeResponseSent (p .credentials) (challengesOf authenticator own chapid) (withRequest q (withReply w p))
+responded authenticator own chapid q w p =
+    atStage ChallengeResponseSent (p .credentials) (challengesOf authenticator own chapid (stringTo authenticator own (ownName p) (p .credentials .hash))) (withRequest q (withReply w p))
 
 -- "WAITING, keeping that request and C"
 unfoldable pub awaiting : List ℕ → List ℕ → Peer → Peer
-awaiting authenticator q p = atStage Waiting (p .credentials) (challengesOf authenticator (p .challenges .own) (p .challenges .chapid)) (withRequest q p)
+awaiting authenticator q p = atStage Waiting (p .credentials) (challengesOf authenticator (p .challenges .own) (p .challenges .chapid) (p .challenges .expected)) (withRequest q p)
 
 -- new credentials answered C by the Response w
 unfoldable pub supplied : List ℕ → List ℕ → List ℕ → ChapId → List ℕ → Peer → Peer
 supplied name hash own chapid w p =
-    atStage ChallengeResponseSent (credentialsOf name hash) (challengesOf (p .challenges .authenticator) own chapid) (withReply w p)
+    atStage ChallengeResponseSent (credentialsOf name hash) (challengesOf (p .challenges .authenticator) own chapid (stringTo (p .challenges .authenticator) own name hash)) (withReply w p)

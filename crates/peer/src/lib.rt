@@ -9,14 +9,15 @@ ghost use Rattle.octets.specs.Octets.{same};
 ghost use Rattle.answer.specs.Answer.{numberOf, refusalOf};
 ghost use Rattle.answer.specs.Outcome.{fitting, refused, Does};
 ghost use Rattle.answer.specs.Sizes.{maxPacket, maxName};
-ghost use Rattle.mschap.specs.Responses.{ntResponse};
+ghost use Rattle.mschap.specs.Responses.{ntResponse, digitsOf};
 ghost use Rattle.packet.specs.Kinds.{isRequest};
 ghost use Rattle.packet.specs.Reader.{toldReading, challengeIn};
 ghost use Rattle.writers.specs.Writers.{sends};
-ghost use Rattle.peer.specs.Inner.{Named, UserIn};
-ghost use Rattle.peer.specs.State.{replyRoom, responseTo, digitsTo, credentialsOf, initial, atStage, withRequest, withReply, staged, answered, responded, awaiting, supplied};
+ghost use Rattle.peer.specs.declared.Move.the-variants.{Respond};
+ghost use Rattle.peer.specs.Inner.{Named, UserIn, stringIn, stringAfter, KeptBy};
+ghost use Rattle.peer.specs.State.{replyRoom, ownName, responseTo, stringTo, rightDigits, credentialsOf, initial, atStage, withRequest, withReply, staged, answered, responded, awaiting, supplied};
 ghost use Rattle.peer.specs.Moves.{takes, moveOf, sent, waiting, repeats, misnumbered, turnOf};
-ghost use Rattle.peer.specs.Calls.{newOf, renewedIn, says, confirmation, answerOf, nextOf, leftBy, turnIn, takenOf, readOf, stepOf, resumeOf, supplyOf, giveUpOf};
+ghost use Rattle.peer.specs.Calls.{newOf, renewedIn, says, confirmation, answerOf, nextOf, leftBy, turnIn, takenBy, readBy, stepOf, resumeOf, supplyOf, giveUpOf};
 use answer::Answer;
 use answer::ChapId;
 use answer::Identifier;
@@ -59,11 +60,13 @@ pub struct Credentials {
     pub hash: [u8; 16],
 }
 
-// The last Response's challenges and MS-CHAPv2-ID; in WAITING the authenticator's challenge is C.
+// The last Response's challenges and MS-CHAPv2-ID, and the authenticator string that is to answer it; in WAITING the
+// authenticator's challenge is C.
 pub struct Challenges {
     pub authenticator: [u8; 16],
     pub own: [u8; 16],
     pub chapid: ChapId,
+    pub expected: [u8; 20],
 }
 
 // The state.
@@ -232,7 +235,7 @@ fn user_in(name: &[u8]) -> &[u8]
     octets::rest(name, at)
 }
 
-// What a Response and the string that answers it are made of, beside the name.
+// What a Response is made of, beside the name.
 struct Keys {
     authenticator: [u8; 16],
     own: [u8; 16],
@@ -250,27 +253,42 @@ fn nt_response(keys: Keys, user: &[u8]) -> [u8; 24]
     made.octets
 }
 
-// The string that answers the Response, as 40 digits.
-fn digits_to(keys: Keys, name: &[u8]) -> [u8; 40]
-    requires { ⌜ length (now name) ≤ maxName ⌝ }
-    ensures { λ r. ⌜ r ≡ digitsTo (keys .authenticator) (keys .own) (now (name .entry)) (keys .hash) ⌝ }
+// The authenticator string that is to answer the Response w, of whose octets it is made.
+fn string_to(hash: [u8; 16], authenticator: [u8; 16], w: &[u8]) -> [u8; 20]
+    requires { ⌜ length (now w) ≤ replyRoom ⌝ }
+    ensures { λ r. ⌜ r ≡ stringIn hash authenticator (now (w .entry)) ⌝ }
 {
-    let authenticator = keys.authenticator;
-    let own = keys.own;
-    let hash = keys.hash;
-    let user = user_in(name);
-    let response = nt_response(keys, user);
+    let own = packet::sixteen_at(w, packet::CHALLENGE_AT);
+    let response = packet::response_at(w, packet::NT_RESPONSE_AT);
+    let user = user_in(octets::rest(w, packet::RESPONSE_NAME_AT));
     let made = mschap::authenticator_string(hash, response, own, authenticator, user);
-    let string = made.octets;
-    mschap::authenticator_digits(string)
+    made.octets
 }
 
-// Whether these digits are that string. All 40 are compared.
-fn is_right(keys: Keys, name: &[u8], digits: &[u8]) -> bool
-    requires { ⌜ length (now name) ≤ maxName ⌝ }
-    ensures { λ r. ⌜ r ≡ same (now (digits .entry)) (digitsTo (keys .authenticator) (keys .own) (now (name .entry)) (keys .hash)) ⌝ }
+// The string that the state keeps after the reply w, where that is a Response to the Challenge q; else zeros, which nothing
+// looks at.
+fn string_after(m: Move, hash: [u8; 16], k: Packet, q: &[u8], w: &[u8]) -> [u8; 20]
+    requires { ⌜ length (now w) ≤ replyRoom ⌝ }
+    ensures { λ r. ⌜ r ≡ stringAfter m hash (challengeIn k (now (q .entry))) (now (w .entry)) ⌝ }
 {
-    let right = digits_to(keys, name);
+    match m {
+        Move::NotTaken => [0u8; 20],
+        Move::WrongIdentifier => [0u8; 20],
+        Move::Again => [0u8; 20],
+        Move::Respond => string_to(hash, packet::sixteen_at(q, k.challenge.start), w),
+        Move::Confirm => [0u8; 20],
+        Move::Fail => [0u8; 20],
+        Move::Wait => [0u8; 20],
+        Move::Succeed => [0u8; 20],
+        Move::End => [0u8; 20],
+    }
+}
+
+// Whether these digits are the string's. All 40 are compared.
+fn is_right(string: [u8; 20], digits: &[u8]) -> bool
+    ensures { λ r. ⌜ r ≡ same (now (digits .entry)) (digitsOf string) ⌝ }
+{
+    let right = mschap::authenticator_digits(string);
     octets::equal(digits, &right)
 }
 
@@ -321,12 +339,11 @@ fn respond(
 }
 
 // The Success Response to the right string. Another ends the login.
-fn confirm(k: Packet, q: &[u8], keys: Keys, name: &[u8], reply: &mut [u8]) -> Written
-    requires { ⌜ length (now name) ≤ maxName ⌝ }
-    ensures { λ r. ⌜ Does (fitting (length (now (reply .entry))) tt (confirmation k (now (q .entry)) keys (now (name .entry)))) (numberOf (r .answer)) (r .n) tt (now (reply .entry)) (now (reply .exit)) ⌝ }
+fn confirm(k: Packet, q: &[u8], expected: [u8; 20], reply: &mut [u8]) -> Written
+    ensures { λ r. ⌜ Does (fitting (length (now (reply .entry))) tt (confirmation k (now (q .entry)) (digitsOf expected))) (numberOf (r .answer)) (r .n) tt (now (reply .entry)) (now (reply .exit)) ⌝ }
 {
     let at = k.response.start;
-    if is_right(keys, name, octets::part(q, at, 40)) {
+    if is_right(expected, octets::part(q, at, 40)) {
         return writers::write_success_response(k.id, reply);
     }
     say(Answer::Ended, reply)
@@ -338,21 +355,21 @@ fn answer_to<'a>(
     k: Packet,
     q: &[u8],
     random: [u8; 16],
-    keys: Keys,
+    expected: [u8; 20],
+    hash: [u8; 16],
     name: &'a [u8],
     last: &'a [u8],
     reply: &mut [u8],
 ) -> Written
     requires { ⌜ length (now name) ≤ maxName ⌝ }
-    ensures { λ r. ⌜ Does (fitting (length (now (reply .entry))) tt (answerOf m k (now (q .entry)) random keys (now (name .entry)) (now (last .entry)))) (numberOf (r .answer)) (r .n) tt (now (reply .entry)) (now (reply .exit)) ⌝ }
+    ensures { λ r. ⌜ Does (fitting (length (now (reply .entry))) tt (answerOf m k (now (q .entry)) (responseTo (k .id .0) (k .chapid .0) (challengeIn k (now (q .entry))) random (now (name .entry)) hash) (digitsOf expected) (now (last .entry)))) (numberOf (r .answer)) (r .n) tt (now (reply .entry)) (now (reply .exit)) ⌝ }
 {
-    let hash = keys.hash;
     match m {
         Move::NotTaken => say(Answer::Refused(Refusal::NotTaken), reply),
         Move::WrongIdentifier => say(Answer::Refused(Refusal::WrongIdentifier), reply),
         Move::Again => writers::send(last, reply),
         Move::Respond => respond(k, q, random, name, hash, reply),
-        Move::Confirm => confirm(k, q, keys, name, reply),
+        Move::Confirm => confirm(k, q, expected, reply),
         Move::Fail => writers::write_failure_response(k.id, reply),
         Move::Wait => say(Answer::NeedsCredentials, reply),
         Move::Succeed => say(Answer::Authenticated, reply),
@@ -393,6 +410,7 @@ impl Peer {
                 authenticator: [0u8; 16],
                 own: [0u8; 16],
                 chapid: ChapId(0),
+                expected: [0u8; 20],
             },
             request: [0u8; Peer::MAX_PACKET],
             requestlen: 0,
@@ -448,9 +466,9 @@ impl Peer {
         self.answered_by(stage, self.challenges, q, w)
     }
 
-    // The Response w to the Challenge q.
-    fn responded(self, k: Packet, q: &[u8], random: [u8; 16], w: &[u8]) -> Peer
-        requires { ⌜ (length (now q) ≤ maxPacket) × (length (now w) ≤ replyRoom) ⌝ }
+    // The Response w to the Challenge q, and the string that is to answer it.
+    fn responded(self, k: Packet, q: &[u8], random: [u8; 16], string: [u8; 20], w: &[u8]) -> Peer
+        requires { ⌜ (length (now q) ≤ maxPacket) × (length (now w) ≤ replyRoom) × (string ≡ stringTo (challengeIn k (now q)) random (ownName self) (self .credentials .hash)) ⌝ }
         ensures { λ r. ⌜ r ≡ responded (challengeIn k (now (q .entry))) random (k .chapid) (now (q .entry)) (now (w .entry)) self ⌝ }
     {
         let chapid = k.chapid;
@@ -458,6 +476,7 @@ impl Peer {
             authenticator: packet::sixteen_at(q, k.challenge.start),
             own: random,
             chapid,
+            expected: string,
         };
         self.answered_by(Stage::ChallengeResponseSent, challenges, q, w)
     }
@@ -470,10 +489,12 @@ impl Peer {
         let credentials = self.credentials;
         let own = self.challenges.own;
         let chapid = self.challenges.chapid;
+        let expected = self.challenges.expected;
         let challenges = Challenges {
             authenticator: packet::hex_sixteen_at(q, k.challenge.start),
             own,
             chapid,
+            expected,
         };
         let mut request = [0u8; Peer::MAX_PACKET];
         octets::fill(&mut request, q);
@@ -489,16 +510,17 @@ impl Peer {
         }
     }
 
-    // New credentials, and the Response w.
+    // New credentials, the Response w, and the string that is to answer it.
     fn supplied(
         self,
         name: &[u8],
         hash: [u8; 16],
         random: [u8; 16],
         chapid: ChapId,
+        string: [u8; 20],
         w: &[u8],
     ) -> Peer
-        requires { ⌜ (length (now name) ≤ maxName) × (length (now w) ≤ replyRoom) ⌝ }
+        requires { ⌜ (length (now name) ≤ maxName) × (length (now w) ≤ replyRoom) × (string ≡ stringTo (self .challenges .authenticator) random (now name) hash) ⌝ }
         ensures { λ r. ⌜ r ≡ supplied (now (name .entry)) hash random chapid (now (w .entry)) self ⌝ }
     {
         let authenticator = self.challenges.authenticator;
@@ -506,6 +528,7 @@ impl Peer {
             authenticator,
             own: random,
             chapid,
+            expected: string,
         };
         let request = self.request;
         let mut reply = [0u8; Peer::REPLY_ROOM];
@@ -533,15 +556,23 @@ impl Peer {
 
     // ---- a packet
     // The state after the reply w. A repeat changes nothing; no more than four moves write a reply.
-    fn next(self, m: Move, k: Packet, q: &[u8], random: [u8; 16], w: &[u8]) -> Peer
-        requires { ⌜ (length (now q) ≤ maxPacket) × (length (now w) ≤ replyRoom) ⌝ }
+    fn next(
+        self,
+        m: Move,
+        k: Packet,
+        q: &[u8],
+        random: [u8; 16],
+        string: [u8; 20],
+        w: &[u8],
+    ) -> Peer
+        requires { ⌜ (length (now q) ≤ maxPacket) × (length (now w) ≤ replyRoom) × KeptBy 0 m string (stringTo (challengeIn k (now q)) random (ownName self) (self .credentials .hash)) ⌝ }
         ensures { λ r. ⌜ r ≡ nextOf m k (now (q .entry)) random (now (w .entry)) self ⌝ }
     {
         match m {
             Move::NotTaken => self,
             Move::WrongIdentifier => self,
             Move::Again => self,
-            Move::Respond => self.responded(k, q, random, w),
+            Move::Respond => self.responded(k, q, random, string, w),
             Move::Confirm => self.answered(Stage::SuccessResponseSent, q, w),
             Move::Fail => self.answered(Stage::FailureResponseSent, q, w),
             Move::Wait => self,
@@ -551,12 +582,21 @@ impl Peer {
     }
 
     // The state after an answer.
-    fn after(self, answer: Answer, m: Move, k: Packet, q: &[u8], random: [u8; 16], w: &[u8]) -> Peer
-        requires { ⌜ (length (now q) ≤ maxPacket) × (length (now w) ≤ replyRoom) ⌝ }
+    fn after(
+        self,
+        answer: Answer,
+        m: Move,
+        k: Packet,
+        q: &[u8],
+        random: [u8; 16],
+        string: [u8; 20],
+        w: &[u8],
+    ) -> Peer
+        requires { ⌜ (length (now q) ≤ maxPacket) × (length (now w) ≤ replyRoom) × KeptBy (numberOf answer) m string (stringTo (challengeIn k (now q)) random (ownName self) (self .credentials .hash)) ⌝ }
         ensures { λ r. ⌜ r ≡ leftBy (numberOf answer) m k (now (q .entry)) random (now (w .entry)) self ⌝ }
     {
         match answer {
-            Answer::Written => self.next(m, k, q, random, w),
+            Answer::Written => self.next(m, k, q, random, string, w),
             Answer::NeedsCredentials => self.awaiting(k, q),
             Answer::Authenticated => self.staged(Stage::Success),
             Answer::Ended => self.staged(Stage::Failed),
@@ -565,35 +605,31 @@ impl Peer {
     }
 
     // The turn, its answer, and the state after it. The fields are lent here alone, and the state is made when all is
-    // written: so it is copied once in and once out.
+    // written and computed: so it is copied once in and once out.
     fn taken(self, k: Packet, q: &[u8], random: [u8; 16], reply: &mut [u8]) -> PeerStep
         requires { ⌜ length (now q) ≤ maxPacket ⌝ }
-        ensures { λ r. ⌜ Does (takenOf self k (now (q .entry)) random (length (now (reply .entry)))) (numberOf (r .answer)) (r .n) (r .peer) (now (reply .entry)) (now (reply .exit)) ⌝ }
+        ensures { λ r. ⌜ Does (takenBy (rightDigits self) self k (now (q .entry)) random (length (now (reply .entry)))) (numberOf (r .answer)) (r .n) (r .peer) (now (reply .entry)) (now (reply .exit)) ⌝ }
     {
         let stage = self.stage;
-        let authenticator = self.challenges.authenticator;
-        let own = self.challenges.own;
+        let expected = self.challenges.expected;
         let hash = self.credentials.hash;
-        let keys = Keys {
-            authenticator,
-            own,
-            hash,
-        };
         let m = turn_in(stage, k, q, first(&self.request, self.requestlen));
         let last = first(&self.reply, self.replylen);
         let name = named(&self.credentials.name, self.credentials.namelen);
-        let w = answer_to(m, k, q, random, keys, name, last, reply);
+        let w = answer_to(m, k, q, random, expected, hash, name, last, reply);
         let answer = w.answer;
+        let sent = octets::part(reply, 0, w.n);
+        let string = string_after(m, hash, k, q, sent);
         PeerStep {
             answer,
             n: w.n,
-            peer: self.after(answer, m, k, q, random, octets::part(reply, 0, w.n)),
+            peer: self.after(answer, m, k, q, random, string, sent),
         }
     }
 
     fn take_packet(self, k: Packet, s: &[u8], random: [u8; 16], reply: &mut [u8]) -> PeerStep
         requires { ⌜ k .length ≤ maxPacket ⌝ }
-        ensures { λ r. ⌜ Does (takenOf self k (take (k .length) (now (s .entry))) random (length (now (reply .entry)))) (numberOf (r .answer)) (r .n) (r .peer) (now (reply .entry)) (now (reply .exit)) ⌝ }
+        ensures { λ r. ⌜ Does (takenBy (rightDigits self) self k (take (k .length) (now (s .entry))) random (length (now (reply .entry)))) (numberOf (r .answer)) (r .n) (r .peer) (now (reply .entry)) (now (reply .exit)) ⌝ }
     {
         let q = octets::part(s, 0, k.length);
         self.taken(k, q, random, reply)
@@ -601,7 +637,7 @@ impl Peer {
 
     fn take_reading(self, x: Reading, s: &[u8], random: [u8; 16], reply: &mut [u8]) -> PeerStep
         requires { ⌜ toldReading x .value .length ≤ maxPacket ⌝ }
-        ensures { λ r. ⌜ Does (readOf (toldReading x) self (now (s .entry)) random (length (now (reply .entry)))) (numberOf (r .answer)) (r .n) (r .peer) (now (reply .entry)) (now (reply .exit)) ⌝ }
+        ensures { λ r. ⌜ Does (readBy (rightDigits self) (toldReading x) self (now (s .entry)) random (length (now (reply .entry)))) (numberOf (r .answer)) (r .n) (r .peer) (now (reply .entry)) (now (reply .exit)) ⌝ }
     {
         match x {
             Reading::Refused(why) => self.refuse(why, reply),
@@ -625,13 +661,14 @@ impl Peer {
         hash: [u8; 16],
         random: [u8; 16],
         chapid: ChapId,
+        string: [u8; 20],
         w: &[u8],
     ) -> Peer
-        requires { ⌜ (length (now name) ≤ maxName) × (length (now w) ≤ replyRoom) ⌝ }
+        requires { ⌜ (length (now name) ≤ maxName) × (length (now w) ≤ replyRoom) × KeptBy (numberOf answer) Respond string (stringTo (self .challenges .authenticator) random (now name) hash) ⌝ }
         ensures { λ r. ⌜ r ≡ pick (eqb (numberOf answer) 0) (supplied (now (name .entry)) hash random chapid (now (w .entry)) self) self ⌝ }
     {
         match answer {
-            Answer::Written => self.supplied(name, hash, random, chapid, w),
+            Answer::Written => self.supplied(name, hash, random, chapid, string, w),
             Answer::NeedsCredentials => self,
             Answer::Authenticated => self,
             Answer::Ended => self,
@@ -654,17 +691,12 @@ impl Peer {
         let chapid = ChapId(octets::octet(last, 6));
         let w = send_response(id, chapid, keys, name, reply);
         let answer = w.answer;
+        let sent = octets::part(reply, 0, w.n);
+        let string = string_to(hash, authenticator, sent);
         PeerStep {
             answer,
             n: w.n,
-            peer: self.resumed(
-                answer,
-                name,
-                hash,
-                random,
-                chapid,
-                octets::part(reply, 0, w.n),
-            ),
+            peer: self.resumed(answer, name, hash, random, chapid, string, sent),
         }
     }
 

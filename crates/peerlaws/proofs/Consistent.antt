@@ -26,10 +26,10 @@ use Rattle.mschap.proofs.Responses.{length-nt-response}
 use Rattle.peer.specs.declared.Stage.{Stage}
 use Rattle.peer.specs.declared.Stage.the-variants.{Begin, ChallengeResponseSent, SuccessResponseSent, FailureResponseSent, Waiting, Success, Failed}
 use Rattle.peer.specs.declared.Peer.{Peer}
-use Rattle.peer.specs.State.{ownName, lastRequest, lastReply, lastId, lastChapId, responseTo, digitsTo, outstanding, rightDigits, initial, staged, answered, responded, awaiting, supplied as suppliedState}
+use Rattle.peer.specs.State.{ownName, lastRequest, lastReply, lastId, lastChapId, responseTo, stringTo, outstanding, computedString, rightDigits, initial, staged, answered, responded, awaiting, supplied as suppliedState}
 use Rattle.peer.specs.Moves.{sent, waiting}
-use Rattle.peer.specs.Calls.{newOf, stepOf, responseBy}
-use Rattle.peerlaws.specs.Exact.{Repeats, responseIn}
+use Rattle.peer.specs.Calls.{newOf, responseIn, stepOf, responseBy}
+use Rattle.peerlaws.specs.Exact.{Repeats}
 use Rattle.peerlaws.specs.Runs.{Call, step, supply, giveUp, callOf, after, IsPeer, IsCall, AreCalls, Reached}
 use Rattle.peerlaws.specs.Promises.{Request, RepeatRuleReached, rightFor, StateConsistent}
 use Rattle.peerlaws.proofs.Forward.{id-here, chap-here, cut-most}
@@ -38,10 +38,10 @@ use Rattle.peerlaws.proofs.Views as view
 use Rattle.peerlaws.proofs.Sizes.{new-is, call-is}
 use Rattle.peerlaws.proofs.Repeats.{whole-request, Answering, moved-stores, supply-stores, repeat-again, repeat-rule}
 
--- what each stage keeps; a Response's MS-CHAPv2-ID is octet 6 of its request
+-- what each stage keeps; a Response's MS-CHAPv2-ID is octet 6 of its request, and the expected string the one that its fields give
 abbrev pub Keeps : Stage → Peer → Type 0
 Keeps Begin p = Unit {0}
-Keeps ChallengeResponseSent p = (lastReply p ≡ outstanding p) × Request (lastRequest p) × (p .challenges .chapid .0 ≡ getD (lastRequest p) 6 0)
+Keeps ChallengeResponseSent p = (lastReply p ≡ outstanding p) × Request (lastRequest p) × (p .challenges .chapid .0 ≡ getD (lastRequest p) 6 0) × (p .challenges .expected ≡ computedString p)
 Keeps SuccessResponseSent p = (lastReply p ≡ successResponse (lastId p)) × Request (lastRequest p)
 Keeps FailureResponseSent p = (lastReply p ≡ failureResponse (lastId p)) × Request (lastRequest p)
 Keeps Waiting p = Request (lastRequest p)
@@ -53,7 +53,7 @@ pub record Invariant (p : Peer) : Type 0 where
   pub keeps : Keeps (p .stage) p
 
 -- ---- a made peer
-made : (name hash : List ℕ) → length hash ≡ 16 → Invariant (newOf name hash .state)
+pub made : (name hash : List ℕ) → length hash ≡ 16 → Invariant (newOf name hash .state)
 unfolding newOf initial
 made name hash h = record { is = new-is name hash h; keeps = arms (λ (o : Outcome Peer). Keeps (o .state .stage) (o .state)) (ltb maxName (length name)) tt tt }
 
@@ -68,7 +68,7 @@ answering-request n q w a = rw (a .request) (a .is)
 -- ---- a step
 module _ (p : Peer) (s random : List ℕ) (room : ℕ) (r : length random ≡ 16) (h : Invariant p) where
   moved-stays : {o : Outcome Peer} (k : Packet) → readPacket end.Peer s ≡ gives k → Moved p k (take (k .length) s) random room o → Keeps (o .state .stage) (o .state)
-  unfolding responded outstanding ownName answered awaiting staged lastRequest
+  unfolding responded outstanding computedString ownName answered awaiting staged lastRequest
   moved-stays k e m = go m (moved-stores p s random room (h .is) r k e m)
     where
       q : List ℕ
@@ -78,7 +78,7 @@ module _ (p : Peer) (s random : List ℕ) (room : ℕ) (r : length random ≡ 16
       go (responds f g l) a =
           let n = responded (challengeIn k q) random (k .chapid) q (responseIn p k q random) p in
           let i = answering-id n q _ (k .id .0) (a refl) (id-here s k e) in
-          (a refl .reply ∙ ap (λ (x : ℕ). responseTo x (k .chapid .0) (challengeIn k q) random (ownName p) (p .credentials .hash)) (sym i), answering-request n q _ (a refl), sym (chap-here s k e (ap isRequest g)) ∙ ap (λ (l : List ℕ). getD l 6 0) (sym (a refl .request)))
+          (a refl .reply ∙ ap (λ (x : ℕ). responseTo x (k .chapid .0) (challengeIn k q) random (ownName p) (p .credentials .hash)) (sym i), answering-request n q _ (a refl), sym (chap-here s k e (ap isRequest g)) ∙ ap (λ (l : List ℕ). getD l 6 0) (sym (a refl .request)), refl)
       go (accepts f g d l) a =
           let n = answered SuccessResponseSent q (successResponse (k .id .0)) p in
           (a refl .reply ∙ ap successResponse (sym (answering-id n q _ (k .id .0) (a refl) (id-here s k e))), answering-request n q _ (a refl))
@@ -98,12 +98,17 @@ module _ (p : Peer) (s random : List ℕ) (room : ℕ) (r : length random ≡ 16
 
 -- ---- the other calls, and any list of them
 supply-stays : (p : Peer) (name hash random : List ℕ) (room : ℕ) → length random ≡ 16 → Invariant p → {o : Outcome Peer} → Supplied p name hash random room o → Keeps (o .state .stage) (o .state)
-unfolding suppliedState responseBy outstanding ownName lastId lastChapId lastRequest
+unfolding suppliedState responseBy outstanding computedString ownName lastId lastChapId lastRequest
 supply-stays p name hash random room r h (view.refuses n a b) = h .keeps
 supply-stays p name hash random room r h (view.supplies-it w f l) =
     let t : Keeps Waiting p = rw w at (h .keeps) in
     let a = supply-stores p name hash random room r (view.supplies-it w f l) refl t in
-    (a .reply ∙ ap (λ (x : List ℕ). responseTo (lastId p) (lastChapId p) (p .challenges .authenticator) random x hash) (sym (take-sized maxName name f)), t, refl)
+    let n = sym (take-sized maxName name f) in (
+      a .reply ∙ ap (λ (x : List ℕ). responseTo (lastId p) (lastChapId p) (p .challenges .authenticator) random x hash) n,
+      t,
+      refl,
+      ap (λ (x : List ℕ). stringTo (p .challenges .authenticator) random x hash) n,
+    )
 
 give-up-stays : (p : Peer) → Invariant p → {o : Outcome Peer} → GaveUp p o → Keeps (o .state .stage) (o .state)
 unfolding staged
@@ -119,7 +124,7 @@ call-stays p giveUp r h = give-up-stays p h (gave-up p)
 pub call-holds : (p : Peer) (c : Call) → IsCall c → Invariant p → Invariant (callOf p c .state)
 call-holds p c r h = record { is = call-is p c r (h .is); keeps = call-stays p c r h }
 
-after-holds : (p : Peer) (cs : List Call) → AreCalls cs → Invariant p → Invariant (after p cs)
+pub after-holds : (p : Peer) (cs : List Call) → AreCalls cs → Invariant p → Invariant (after p cs)
 unfolding runs.after
 after-holds p [] a h = h
 after-holds p (c ∷ cs) a h = after-holds (callOf p c .state) cs (a .1) (call-holds p c (a .0) h)
@@ -151,8 +156,12 @@ kept-request Waiting p f k = k
 kept-request Success p f k = clash refl f
 kept-request Failed p f k = clash refl f
 
-kept-response : (stage : Stage) (p : Peer) → stage ≡ ChallengeResponseSent → Keeps stage p → lastReply p ≡ outstanding p
-kept-response stage p f k = subst (λ (x : Stage). Keeps x p) f k .0
+kept-response : (p : Peer) → Invariant p → p .stage ≡ ChallengeResponseSent → Keeps ChallengeResponseSent p
+kept-response p h f = subst (λ (x : Stage). Keeps x p) f (h .keeps)
+
+-- "they equal the value defined in 01 while a Response is outstanding"
+pub kept-string : (p : Peer) → Invariant p → p .stage ≡ ChallengeResponseSent → p .challenges .expected ≡ computedString p
+kept-string p h f = kept-response p h f .3
 
 or-waits : (stage : Stage) → waiting stage ≡ true → (sent stage || waiting stage) ≡ true
 or-waits Begin e = e
@@ -172,8 +181,8 @@ unfolding fitting
 again-sends p room = arms (λ (o : Outcome Peer). o .number ≡ 0 → o .octets ≡ lastReply p) (ltb room (length (lastReply p))) (λ z. absurd (omega arith)) (λ z. refl)
 
 -- the right string by the octets of the outstanding Response
-string-of : (id chapid : ℕ) (authenticator own name hash : List ℕ) → length own ≡ 16 → digitsTo authenticator own name hash ≡ rightFor hash authenticator (responseTo id chapid authenticator own name hash)
-unfolding digitsTo responseTo responsePacket chapPacket header
+string-of : (id chapid : ℕ) (authenticator own name hash : List ℕ) → length own ≡ 16 → digitsOf (stringTo authenticator own name hash) ≡ rightFor hash authenticator (responseTo id chapid authenticator own name hash)
+unfolding stringTo responseTo responsePacket chapPacket header
 string-of id chapid authenticator own name hash h =
     let nt = ntResponse authenticator own (userOf name) hash in
     let w = responsePacket id chapid own nt name in
@@ -185,9 +194,12 @@ string-of id chapid authenticator own name hash h =
     let d59 : drop 59 w ≡ name = drop-next w (0 ∷ []) name 58 1 59 d58 refl refl in
     (λ j. digitsOf (authenticatorOf hash (sym (part-from w nt _ 34 24 d34 k) j) (sym (part-from w own _ 10 16 d10 h) j) authenticator (userOf (sym d59 j))))
 
-kept-string : (p : Peer) → IsPeer p → lastReply p ≡ outstanding p → rightDigits p ≡ rightFor (p .credentials .hash) (p .challenges .authenticator) (lastReply p)
-unfolding rightDigits outstanding
-kept-string p i e = string-of (lastId p) (p .challenges .chapid .0) (p .challenges .authenticator) (p .challenges .own) (ownName p) (p .credentials .hash) (i .challenges .own) ∙ ap (rightFor (p .credentials .hash) (p .challenges .authenticator)) (sym e)
+right-string : (p : Peer) → Invariant p → p .stage ≡ ChallengeResponseSent → rightDigits p ≡ rightFor (p .credentials .hash) (p .challenges .authenticator) (lastReply p)
+unfolding rightDigits computedString outstanding
+right-string p h f =
+    ap digitsOf (kept-string p h f)
+    ∙ string-of (lastId p) (p .challenges .chapid .0) (p .challenges .authenticator) (p .challenges .own) (ownName p) (p .credentials .hash) (h .is .challenges .own)
+    ∙ ap (rightFor (p .credentials .hash) (p .challenges .authenticator)) (sym (kept-response p h f .0))
 
 again-size : (p : Peer) (s random : List ℕ) (room : ℕ) → Repeats p s → stepOf p s random room .number ≡ 0 → stepOf p s random room .octets ≡ lastReply p
 again-size p s random room t z = let e = repeat-again p s random room t in ap (λ (o : Outcome Peer). o .octets) e ∙ again-sends p room (sym (ap (λ (o : Outcome Peer). o .number) e) ∙ z)
@@ -196,8 +208,8 @@ pub state-consistent : StateConsistent
 state-consistent p r =
     let h = reached p r in
     record {
-      response = λ f. kept-response (p .stage) p f (h .keeps);
-      string = λ f. kept-string p (h .is) (kept-response (p .stage) p f (h .keeps));
+      response = λ f. kept-response p h f .0;
+      string = right-string p h;
       size = λ s random room t z. ap length (again-size p s random room t z) ∙ kept-size (p .stage) p (t .stage) (h .keeps);
       request = λ f. kept-request (p .stage) p f (h .keeps);
     }

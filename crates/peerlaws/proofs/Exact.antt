@@ -28,7 +28,7 @@ use Rattle.peer.specs.declared.Stage.the-variants.{Begin, ChallengeResponseSent
 use Rattle.peer.specs.declared.Peer.{Peer}
 use Rattle.peer.specs.State.{lastRequest, lastId, rightDigits, staged}
 use Rattle.peer.specs.Moves.{takes, moveOf, sent, waiting, repeats, misnumbered, turnOf}
-use Rattle.peer.specs.Calls.{newOf, digitsIn, confirmation, answerOf, nextOf, leftBy, leaving, movedOf, turnIn, takenOf, readOf, stepOf, resumeOf, supplyOf, giveUpOf}
+use Rattle.peer.specs.Calls.{newOf, digitsIn, confirmation, answerOf, nextOf, leftBy, leaving, movedBy, movedOf, turnIn, takenBy, readBy, stepBy, stepOf, resumeOf, supplyOf, giveUpOf}
 use Rattle.peerlaws.specs.Exact.{Repeats, Misnumbered, another-request, other-end, Row, challenge, right-string, other-string, no-retry, retry, eap-success, eap-failure, Steps, unread, repeat, not-taken, wrong-identifier, taken, StepExact, Supplies, SupplyExact, GivesUp, GiveUpExact, Makes, NewExact}
 use Rattle.peerlaws.specs.Exact as exact
 use Rattle.peerlaws.proofs.Forward.{turned, moved-on, right-or-other, repeated, resumes-so}
@@ -106,11 +106,11 @@ module _ (p : Peer) (s random : List ℕ) (room : ℕ) (k : Packet) (e : readPac
   of kind t x = let g = kind-so kind (k .kind) t in subst (λ (z : Kind). Here (movedOf (moveOf z) p k cut random room)) (sym g) (x g)
 
   ends : sent (p .stage) ≡ true → isKind EapFailure (k .kind) ≡ true → Here (movedOf (moveOf (k .kind)) p k cut random room)
-  unfolding movedOf answerOf leftBy pick
+  unfolding movedBy answerOf leftBy pick
   ends f t = of EapFailure t (λ g. rw (plain 3 (staged Failed p)) (eap-failure f g))
 
   row : (stage : Stage) → p .stage ≡ stage → takes stage (k .kind) ≡ true → Here (movedOf (moveOf (k .kind)) p k cut random room)
-  unfolding movedOf answerOf confirmation rightDigits leftBy nextOf pick
+  unfolding movedBy answerOf confirmation rightDigits leftBy nextOf pick
   row Begin f t = of Challenge t (λ g. challenge f g)
   row ChallengeResponseSent f t =
       either _ _ t
@@ -132,8 +132,8 @@ module _ (p : Peer) (s random : List ℕ) (room : ℕ) (k : Packet) (e : readPac
   row Success f t = clash refl t
   row Failed f t = clash refl t
 
-  turn : Steps p s random room (takenOf p k cut random room)
-  unfolding takenOf turnIn turnOf movedOf answerOf leftBy nextOf pick
+  turn : Steps p s random room (takenBy (rightDigits p) p k cut random room)
+  unfolding takenBy turnIn turnOf movedBy answerOf leftBy nextOf pick
   turn =
       picked (λ m. Steps p s random room (movedOf m p k cut random room)) (repeats (p .stage) (k .kind) again)
       (λ t. repeat (repeats-so t))
@@ -147,7 +147,7 @@ module _ (p : Peer) (s random : List ℕ) (room : ℕ) (k : Packet) (e : readPac
 
   -- ---- and no other outcome
   row-is : {o : Outcome Peer} → Row p k cut random room o → (takes (p .stage) (k .kind) ≡ true) × (movedOf (moveOf (k .kind)) p k cut random room ≡ o)
-  unfolding movedOf answerOf confirmation rightDigits leftBy nextOf pick
+  unfolding movedBy answerOf confirmation rightDigits leftBy nextOf pick
   row-is (challenge f g) = ((λ j. takes (f j) (g j)), ap (λ (z : Kind). movedOf (moveOf z) p k cut random room) g)
   row-is (right-string f g d) = (
     (λ j. takes (f j) (g j)),
@@ -166,14 +166,14 @@ module _ (p : Peer) (s random : List ℕ) (room : ℕ) (k : Packet) (e : readPac
   row-is (eap-failure f g) = (ap (takes (p .stage)) g ∙ failure-taken (p .stage) f, ap (λ (z : Kind). movedOf (moveOf z) p k cut random room) g ∙ plain 3 (staged Failed p))
 
   not-taken-is : (Repeats p s → ⊥) → takes (p .stage) (k .kind) ≡ false → stepOf p s random room ≡ refused 19 p
-  unfolding turnOf movedOf answerOf leftBy pick
+  unfolding turnOf movedBy answerOf leftBy pick
   not-taken-is n t =
       turned p s random room k e
       ∙ ap (λ m. movedOf m p k cut random room) (pick-false _ _ _ (repeats-not n) ∙ pick-true _ _ _ (ap not t))
       ∙ plain 19 p
 
   wrong-identifier-is : (Repeats p s → ⊥) → takes (p .stage) (k .kind) ≡ true → Misnumbered p k → stepOf p s random room ≡ refused 18 p
-  unfolding turnOf movedOf answerOf leftBy pick
+  unfolding turnOf movedBy answerOf leftBy pick
   wrong-identifier-is n t m =
       turned p s random room k e
       ∙ ap (λ m. movedOf m p k cut random room) (pick-false _ _ _ (repeats-not n) ∙ pick-false _ _ _ (ap not t) ∙ pick-true _ _ _ (misnumbered-is m))
@@ -186,15 +186,15 @@ module _ (p : Peer) (s random : List ℕ) (room : ℕ) (k : Packet) (e : readPac
 
 -- ---- every step
 pub steps : (p : Peer) (s random : List ℕ) (room : ℕ) → Steps p s random room (stepOf p s random room)
-unfolding stepOf readOf
+unfolding stepOf stepBy readBy
 steps p s random room = go (read-or-refused end.Peer s) refl
   where
-    go : {t : Told Packet} → ReadOrRefused s t → readPacket end.Peer s ≡ t → Steps p s random room (readOf t p s random room)
+    go : {t : Told Packet} → ReadOrRefused s t → readPacket end.Peer s ≡ t → Steps p s random room (readBy (rightDigits p) t p s random room)
     go (refused-by n h l) e = rw (pick-false (eqb n 0) _ _ (ne-eqb n 0 (λ z. absurd (omega arith)))) (unread n (ap (λ (t : Told Packet). t .number) e) h l)
     go (read-as k i) e = rw (pick-true true _ _ refl) (turn p s random room k e)
 
 unread-is : (p : Peer) (s random : List ℕ) (room n : ℕ) → readPacket end.Peer s .number ≡ n → 10 ≤ n → stepOf p s random room ≡ refused n p
-unfolding stepOf readOf
+unfolding stepOf stepBy readBy
 unread-is p s random room n e h = pick-false _ _ _ (ne-eqb (readPacket end.Peer s .number) 0 (λ z. absurd (omega arith))) ∙ ap (λ (x : ℕ). refused x p) e
 
 only-step : (p : Peer) (s random : List ℕ) (room : ℕ) (o : Outcome Peer) → Steps p s random room o → o ≡ stepOf p s random room

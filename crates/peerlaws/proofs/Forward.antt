@@ -31,8 +31,8 @@ use Rattle.peer.specs.declared.Stage.{Stage}
 use Rattle.peer.specs.declared.Stage.the-variants.{Begin, ChallengeResponseSent, SuccessResponseSent, FailureResponseSent, Waiting, Success, Failed}
 use Rattle.peer.specs.State.{lastRequest, lastReply, lastId, rightDigits, initial, staged, answered, awaiting}
 use Rattle.peer.specs.Moves.{takes, moveOf, sent, waiting, repeats, misnumbered, turnOf}
-use Rattle.peer.specs.Calls.{newOf, renewedIn, digitsIn, says, writes, confirmation, answerOf, nextOf, leftBy, leaving, movedOf, turnIn, takenOf, readOf, stepOf, responseBy, resumeOf, supplyOf}
-use Rattle.peerlaws.specs.Exact.{responseIn, responding, supplying}
+use Rattle.peer.specs.Calls.{newOf, renewedIn, digitsIn, says, writes, confirmation, answerOf, nextOf, leftBy, leaving, responseIn, movedBy, turnIn, takenBy, readBy, stepBy, movedOf, stepOf, responseBy, resumeOf, supplyOf}
+use Rattle.peerlaws.specs.Exact.{responding, supplying}
 use Rattle.peerlaws.specs.Promises.{AnyTailTaken, Unlike, AnyChapIdTaken}
 
 -- ---- a packet that was read, cut at L: octet 1 is its Identifier, and it is no longer than the state's place for it
@@ -70,8 +70,8 @@ module _ (p : Peer) (s random : List ℕ) (room : ℕ) (k : Packet) (read : read
   q = take (k .length) s
 
   pub turned : stepOf p s random room ≡ movedOf (turnOf (p .stage) (k .kind) (same q (lastRequest p)) (octetIs (lastRequest p) 1 (k .id .0))) p k q random room
-  unfolding stepOf readOf takenOf turnIn
-  turned = ap (λ (t : Told Packet). readOf t p s random room) read ∙ pick-true _ _ _ refl
+  unfolding stepOf stepBy readBy takenBy turnIn
+  turned = ap (λ (t : Told Packet). readBy (rightDigits p) t p s random room) read ∙ pick-true _ _ _ refl
 
   -- a packet with another Identifier is not the last answered request
   other-not : (k .id .0 ≡ lastId p → ⊥) → same q (lastRequest p) ≡ false
@@ -91,7 +91,7 @@ module _ (p : Peer) (s random : List ℕ) (room : ℕ) (k : Packet) (read : read
 
   -- ---- the last answered request again
   pub repeated : sent (p .stage) ≡ true → isRequest (k .kind) ≡ true → q ≡ lastRequest p → stepOf p s random room ≡ fitting room p (outcome 0 (lastReply p) p)
-  unfolding turnOf repeats movedOf answerOf leftBy nextOf pick
+  unfolding turnOf repeats movedBy answerOf leftBy nextOf pick
   repeated a b c =
       turned
       ∙ ap (λ m. movedOf m p k q random room) (pick-true _ _ _ (pick-false _ _ _ (ap not a) ∙ pick-false _ _ _ (ap not b) ∙ ap (λ (x : List ℕ). same x (lastRequest p)) c ∙ same-refl (lastRequest p)))
@@ -123,7 +123,7 @@ module _ (p : Peer) (s random : List ℕ) (room : ℕ) (k : Packet) (read : read
 
   pub responds-so : p .stage ≡ Begin → k .kind ≡ Challenge → length (responseIn p k q random) ≤ room
       → stepOf p s random room ≡ responding p k q random
-  unfolding movedOf answerOf leftBy nextOf pick
+  unfolding movedBy answerOf leftBy nextOf pick
   responds-so e f r = request-at Begin Challenge refl refl e f (λ z. clash (ap sent e) z) ∙ fitting-so room p _ r
 
   -- a Success Request: by its digits
@@ -135,25 +135,25 @@ module _ (p : Peer) (s random : List ℕ) (room : ℕ) (k : Packet) (read : read
 
   decides-so : p .stage ≡ ChallengeResponseSent → k .kind ≡ SuccessRequest → (k .id .0 ≡ lastId p → ⊥)
       → stepOf p s random room ≡ fitting room p (pick (same (digitsIn k q) (rightDigits p)) (outcome 0 (successResponse (k .id .0)) (answered SuccessResponseSent q (successResponse (k .id .0)) p)) (outcome 3 [] (staged Failed p)))
-  unfolding movedOf answerOf confirmation rightDigits
+  unfolding movedBy answerOf confirmation rightDigits
   decides-so e f d =
       request-at ChallengeResponseSent SuccessRequest refl refl e f (λ z. d) ∙ ap (fitting room p) (right-or-other (same (digitsIn k q) (rightDigits p)))
 
   pub fails-so : p .stage ≡ ChallengeResponseSent → k .kind ≡ FailureRequest → (k .id .0 ≡ lastId p → ⊥) → 6 ≤ room
       → stepOf p s random room ≡ outcome 0 (failureResponse (k .id .0)) (answered FailureResponseSent q (failureResponse (k .id .0)) p)
-  unfolding movedOf answerOf leftBy nextOf pick
+  unfolding movedBy answerOf leftBy nextOf pick
   fails-so e f d r = request-at ChallengeResponseSent FailureRequest refl refl e f (λ z. d) ∙ fitting-so room p _ r
 
   pub waits-so : p .stage ≡ ChallengeResponseSent → k .kind ≡ RetryRequest → (k .id .0 ≡ lastId p → ⊥) → stepOf p s random room ≡ outcome 1 [] (awaiting (renewedIn k q) q p)
-  unfolding movedOf answerOf leftBy pick
+  unfolding movedBy answerOf leftBy pick
   waits-so e f d = request-at ChallengeResponseSent RetryRequest refl refl e f (λ z. d) ∙ fitting-so room p _ (omega arith)
 
   pub succeeds-so : p .stage ≡ SuccessResponseSent → k .kind ≡ EapSuccess → lastId p ≡ k .id .0 → stepOf p s random room ≡ outcome 2 [] (staged Success p)
-  unfolding movedOf answerOf leftBy pick
+  unfolding movedBy answerOf leftBy pick
   succeeds-so e f i = end-at SuccessResponseSent EapSuccess refl refl e f i ∙ fitting-so room p _ (omega arith)
 
   pub ends-so : p .stage ≡ FailureResponseSent → k .kind ≡ EapFailure → lastId p ≡ k .id .0 → stepOf p s random room ≡ outcome 3 [] (staged Failed p)
-  unfolding movedOf answerOf leftBy pick
+  unfolding movedBy answerOf leftBy pick
   ends-so e f i = end-at FailureResponseSent EapFailure refl refl e f i ∙ fitting-so room p _ (omega arith)
 
 -- ---- 2. a Success Request at any tail

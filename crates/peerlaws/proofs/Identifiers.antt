@@ -24,10 +24,9 @@ use Rattle.packet.proofs.Renumbered.{read-renumbered}
 use Rattle.peer.specs.declared.Stage.{Stage}
 use Rattle.peer.specs.declared.Stage.the-variants.{ChallengeResponseSent, SuccessResponseSent, FailureResponseSent, Waiting}
 use Rattle.peer.specs.declared.Peer.{Peer}
-use Rattle.peer.specs.State.{replyRoom, responseTo, rightDigits, answered, responded, awaiting}
+use Rattle.peer.specs.State.{replyRoom, ownName, responseTo, stringTo, rightDigits, answered, responded, awaiting}
 use Rattle.peer.specs.Moves.{takes, moveOf, repeats, misnumbered, turnOf}
-use Rattle.peer.specs.Calls.{renewedIn, digitsIn, says, writes, confirmation, answerOf, nextOf, leftBy, leaving, movedOf, readOf, stepOf}
-use Rattle.peerlaws.specs.Exact.{responseIn}
+use Rattle.peer.specs.Calls.{renewedIn, digitsIn, says, writes, confirmation, answerOf, nextOf, leftBy, leaving, responseIn, movedBy, readBy, stepBy, movedOf, stepOf}
 use Rattle.peerlaws.specs.Promises.{unnumberedState, unnumbered, EqualityOnly}
 use Rattle.peerlaws.proofs.Forward.{newly}
 use Rattle.peerlaws.proofs.Twins.{Twin, twin, twin-take, twin-sized, twin-set, drops, parts}
@@ -81,14 +80,14 @@ module _ (p : Peer) (k : Packet) (i j : ℕ) (q q′ random : List ℕ) (room : 
       (λ x. record { stage = stage; credentials = p .credentials; challenges = p .challenges; request = request x; requestlen = t .size x; reply = reply w w′ u x; replylen = u .size x })
 
   responds : 2 ≤ k .challenge .start → unnumbered (movedOf (moveOf Challenge) p (under i k) q random room) ≡ unnumbered (movedOf (moveOf Challenge) p (under j k) q′ random room)
-  unfolding movedOf answerOf leftBy nextOf pick responded challengeIn responseTo responsePacket chapPacket header unnumberedState
+  unfolding movedBy answerOf leftBy nextOf pick responded challengeIn responseTo responsePacket chapPacket header unnumberedState
   responds h =
       let e : challengeIn (under i k) q ≡ challengeIn (under j k) q′ = ap (sized 16) (drops q q′ t (k .challenge .start) h) in
       let w = responseIn p (under i k) q random in
       let w′ = responseIn p (under j k) q′ random in
       let u : Twin w w′ = rw e (twin 2 i j _) in
       sends 0 (responded (challengeIn (under i k) q) random (k .chapid) q w p) (responded (challengeIn (under j k) q′) random (k .chapid) q′ w′ p) w w′ u
-      (λ x. record { stage = ChallengeResponseSent; credentials = p .credentials; challenges = record { authenticator = e x; own = random; chapid = k .chapid }; request = request x; requestlen = t .size x; reply = reply w w′ u x; replylen = u .size x })
+      (λ x. record { stage = ChallengeResponseSent; credentials = p .credentials; challenges = record { authenticator = e x; own = random; chapid = k .chapid; expected = stringTo (e x) random (ownName p) (p .credentials .hash) }; request = request x; requestlen = t .size x; reply = reply w w′ u x; replylen = u .size x })
 
   abbrev Confirming : ℕ → List ℕ → Bool → Outcome Peer
   Confirming i q right = unnumbered (fitting room p (leaving (pick right (writes (successResponse i)) (says 3)) (moveOf SuccessRequest) (under i k) q random p))
@@ -99,19 +98,19 @@ module _ (p : Peer) (k : Packet) (i j : ℕ) (q q′ random : List ℕ) (room : 
   concludes false = refl
 
   confirms : 2 ≤ k .response .start → unnumbered (movedOf (moveOf SuccessRequest) p (under i k) q random room) ≡ unnumbered (movedOf (moveOf SuccessRequest) p (under j k) q′ random room)
-  unfolding movedOf answerOf confirmation digitsIn rightDigits
+  unfolding movedBy answerOf confirmation digitsIn rightDigits
   confirms h =
       ap (λ (l : List ℕ). Confirming i q (same l (rightDigits p))) (parts q q′ t (k .response .start) 40 h)
       ∙ concludes (same (part q′ (k .response .start) 40) (rightDigits p))
 
   waits : 2 ≤ k .challenge .start → unnumbered (movedOf (moveOf RetryRequest) p (under i k) q random room) ≡ unnumbered (movedOf (moveOf RetryRequest) p (under j k) q′ random room)
-  unfolding movedOf answerOf leftBy pick awaiting renewedIn unnumberedState
+  unfolding movedBy answerOf leftBy pick awaiting renewedIn unnumberedState
   waits h =
       sends 1 (awaiting (renewedIn k q) q p) (awaiting (renewedIn k q′) q′ p) [] [] (record { size = refl; octet = λ x n. refl })
       (λ x. record {
         stage = Waiting;
         credentials = p .credentials;
-        challenges = record { authenticator = cells 16 (unhexAt (parts q q′ t (k .challenge .start) 32 h x)); own = p .challenges .own; chapid = p .challenges .chapid };
+        challenges = record { authenticator = cells 16 (unhexAt (parts q q′ t (k .challenge .start) 32 h x)); own = p .challenges .own; chapid = p .challenges .chapid; expected = p .challenges .expected };
         request = request x;
         requestlen = t .size x;
         reply = set (p .reply) 1 0;
@@ -119,7 +118,7 @@ module _ (p : Peer) (k : Packet) (i j : ℕ) (q q′ random : List ℕ) (room : 
       })
 
   moves : (kind : Kind) → Past kind (k .challenge .start) (k .response .start) → unnumbered (movedOf (moveOf kind) p (under i k) q random room) ≡ unnumbered (movedOf (moveOf kind) p (under j k) q′ random room)
-  unfolding movedOf answerOf leftBy nextOf pick
+  unfolding movedBy answerOf leftBy nextOf pick
   moves Challenge h = responds h
   moves Response h = refl
   moves SuccessRequest h = confirms h
@@ -132,7 +131,7 @@ module _ (p : Peer) (k : Packet) (i j : ℕ) (q q′ random : List ℕ) (room : 
 
   -- no other turn looks into the packet
   turns : (stage : Stage) (kind : Kind) → Past kind (k .challenge .start) (k .response .start) → unnumbered (movedOf (turnOf stage kind false false) p (under i k) q random room) ≡ unnumbered (movedOf (turnOf stage kind false false) p (under j k) q′ random room)
-  unfolding turnOf movedOf answerOf leftBy nextOf pick
+  unfolding turnOf movedBy answerOf leftBy nextOf pick
   turns stage kind h =
       arms (λ m. unnumbered (movedOf m p (under i k) q random room) ≡ unnumbered (movedOf m p (under j k) q′ random room)) (repeats stage kind false) refl
       (arms (λ m. unnumbered (movedOf m p (under i k) q random room) ≡ unnumbered (movedOf m p (under j k) q′ random room)) (not (takes stage kind)) refl
@@ -141,8 +140,8 @@ module _ (p : Peer) (k : Packet) (i j : ℕ) (q q′ random : List ℕ) (room : 
 
 -- ---- 4
 unread : (p : Peer) (s random : List ℕ) (room n : ℕ) → readPacket end.Peer s ≡ refusal n → eqb n 0 ≡ false → stepOf p s random room ≡ refused n p
-unfolding stepOf readOf
-unread p s random room n e z = ap (λ (t : Told Packet). readOf t p s random room) e ∙ pick-false _ _ _ z
+unfolding stepOf stepBy readBy
+unread p s random room n e z = ap (λ (t : Told Packet). readBy (rightDigits p) t p s random room) e ∙ pick-false _ _ _ z
 
 pub equality-only : EqualityOnly
 equality-only p code i j rest random room n m = go (read-renumbered i j end.Peer code rest)

@@ -6,6 +6,7 @@ pub mod Promises
 pub mod Repeats
 pub mod Consistent
 pub mod Earned
+pub mod Expected
 pub mod Twins
 pub mod Identifiers
 pub mod ReadBack

@@ -22,12 +22,12 @@ use Rattle.packet.specs.Forms.{header, chapPacket, responsePacket, successRespo
 use Rattle.peer.specs.declared.Stage.{Stage}
 use Rattle.peer.specs.declared.Stage.the-variants.{Waiting, Success, Failed}
 use Rattle.peer.specs.declared.Peer.{Peer}
-use Rattle.peer.specs.State.{lastRequest, lastReply, responseTo, staged, answered, responded, awaiting, supplied as suppliedState}
+use Rattle.peer.specs.State.{lastRequest, lastReply, responseTo, rightDigits, staged, answered, responded, awaiting, supplied as suppliedState}
 use Rattle.peer.specs.Moves.{takes, sent, repeats, turnOf}
-use Rattle.peer.specs.Calls.{answerOf, leftBy, movedOf, turnIn, takenOf, readOf, stepOf, responseBy}
+use Rattle.peer.specs.Calls.{answerOf, leftBy, responseIn, movedBy, turnIn, takenBy, readBy, stepBy, movedOf, stepOf, responseBy}
 use Rattle.packet.specs.Promises.{ReadOrRefused, refused-by, read-as}
 use Rattle.packet.proofs.Readings.{read-or-refused}
-use Rattle.peerlaws.specs.Exact.{Repeats, responseIn}
+use Rattle.peerlaws.specs.Exact.{Repeats}
 use Rattle.peerlaws.specs.Runs.{Call, step, supply, giveUp, callOf}
 use Rattle.peerlaws.specs.Promises.{Leaves, written, credentials, authenticated, ended, refusal, AnswersLeave, Confirms, SuccessOnlyIfRight, NoPacketTaken}
 use Rattle.peerlaws.proofs.Views.{Moved, responds, accepts, fails, waits, succeeds, ends, Stepped, stepped, Supplied, supplied, GaveUp, gave-up}
@@ -81,7 +81,7 @@ response-op id chapid own response name = refl
 pub other : {A : Type 0} (q : List ℕ) (id x : ℕ) → getD q 5 0 ≡ x → (x ≡ 3 → ⊥) → q ≡ successResponse id → A
 other q id x f n e = absurd (n (sym f ∙ ap (λ (l : List ℕ). getD l 5 0) e))
 
-pub moved-confirms : {p : Peer} {s random : List ℕ} {room id : ℕ} {o : Outcome Peer} (k : Packet) → readPacket end.Peer s ≡ gives k → Moved p k (take (k .length) s) random room o → o .octets ≡ successResponse id → Confirms p s × (o .number ≡ 0)
+pub moved-confirms : {p : Peer} {s random : List ℕ} {room id : ℕ} {o : Outcome Peer} (k : Packet) → readPacket end.Peer s ≡ gives k → Moved p k (take (k .length) s) random room o → o .octets ≡ successResponse id → Confirms (rightDigits p) p s × (o .number ≡ 0)
 unfolding responseTo
 moved-confirms k e (responds f g h) z = other _ _ 2 (response-op _ _ _ _ _) (λ n. absurd (omega arith)) z
 moved-confirms k e (accepts f g r h) z = (record { stage = f; packet = k; reads = e; success = g; right = r }, refl)
@@ -90,7 +90,7 @@ moved-confirms k e (waits f g) z = other [] _ 0 refl (λ n. absurd (omega arith)
 moved-confirms k e (succeeds f) z = other [] _ 0 refl (λ n. absurd (omega arith)) z
 moved-confirms k e ends z = other [] _ 0 refl (λ n. absurd (omega arith)) z
 
-step-confirms : {p : Peer} {s random : List ℕ} {room id : ℕ} {o : Outcome Peer} → Stepped p s random room o → o .octets ≡ successResponse id → Repeats p s ⊎ Confirms p s
+step-confirms : {p : Peer} {s random : List ℕ} {room id : ℕ} {o : Outcome Peer} → Stepped p s random room o → o .octets ≡ successResponse id → Repeats p s ⊎ Confirms (rightDigits p) p s
 step-confirms (view.refuses n h l) z = other [] _ 0 refl (λ n. absurd (omega arith)) z
 step-confirms (view.repeats-it r h) z = inl r
 step-confirms (view.moves k e m) z = inr (moved-confirms k e m z .0)
@@ -112,7 +112,7 @@ success-only-if-right p giveUp id z = give-up-confirms (gave-up p) z
 
 -- ---- 5
 none : (stage : Stage) (kind : Kind) (p : Peer) (k : Packet) (q random : List ℕ) (room : ℕ) (same known : Bool) → sent stage ≡ false → takes stage kind ≡ false → movedOf (turnOf stage kind same known) p k q random room ≡ refused 19 p
-unfolding turnOf repeats movedOf answerOf leftBy pick
+unfolding turnOf repeats movedBy answerOf leftBy pick
 none stage kind p k q random room same known e t =
     ap (λ m. movedOf m p k q random room) (pick-false _ _ _ (pick-true _ _ _ (ap not e)) ∙ pick-true _ _ _ (ap not t)) ∙ fitting-so room p (refused 19 p) (omega arith)
 
@@ -122,10 +122,10 @@ resting stage kind (inr (inl e)) = (ap sent e, ap (λ (g : Stage). takes g kind)
 resting stage kind (inr (inr e)) = (ap sent e, ap (λ (g : Stage). takes g kind) e)
 
 pub no-packet-taken : NoPacketTaken
-unfolding stepOf readOf takenOf turnIn
+unfolding stepOf stepBy readBy takenBy turnIn
 no-packet-taken p s random room k h e = go (read-or-refused end.Peer s) e
   where
-    go : {t : Told Packet} → ReadOrRefused s t → k ≡ t .number → readOf t p s random room ≡ refused (pick (eqb k 0) 19 k) p
+    go : {t : Told Packet} → ReadOrRefused s t → k ≡ t .number → readBy (rightDigits p) t p s random room ≡ refused (pick (eqb k 0) 19 k) p
     go (refused-by n l m) f =
         let z : eqb n 0 ≡ false = ne-eqb n 0 (λ z. absurd (omega arith)) in
         rw f (pick-false _ _ _ z ∙ ap (λ (x : ℕ). refused x p) (sym (pick-false (eqb n 0) 19 n z)))

@@ -21,8 +21,8 @@ use Rattle.packet.specs.Reader.{readPacket, challengeIn}
 use Rattle.peer.specs.declared.Peer.{Peer}
 use Rattle.peer.specs.State.{replyRoom, ownName, lastRequest, lastReply, lastId, lastChapId, answered, responded, supplied as suppliedState}
 use Rattle.peer.specs.Moves.{sent, waiting}
-use Rattle.peer.specs.Calls.{stepOf, responseBy}
-use Rattle.peerlaws.specs.Exact.{Repeats, responseIn}
+use Rattle.peer.specs.Calls.{responseIn, stepOf, responseBy}
+use Rattle.peerlaws.specs.Exact.{Repeats}
 use Rattle.peerlaws.specs.Runs.{Call, step, supply, giveUp, callOf, roomOf, after, IsPeer, IsCall}
 use Rattle.peerlaws.specs.Promises.{Leaves, written, credentials, authenticated, ended, refusal, Request, Answers, NoNewAnswer, NoNewAnswers, RepeatRule}
 use Rattle.packet.proofs.Readings.{tells, read-padded}

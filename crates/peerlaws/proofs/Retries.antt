@@ -21,9 +21,9 @@ use Rattle.peer.specs.declared.Stage.the-variants.{Begin}
 use Rattle.peer.specs.declared.Peer.{Peer}
 use Rattle.peer.specs.State.{ownName, lastRequest, lastId, lastChapId, responseTo, answered, responded, awaiting, supplied}
 use Rattle.peer.specs.Moves.{sent}
-use Rattle.peer.specs.Calls.{renewedIn, stepOf, responseBy, resumeOf, supplyOf}
+use Rattle.peer.specs.Calls.{renewedIn, responseIn, stepOf, responseBy, resumeOf, supplyOf}
 use Rattle.peer.proofs.Replies.{length-response-to}
-use Rattle.peerlaws.specs.Exact.{Repeats, Misnumbered, responseIn, responding, Row, challenge, right-string, other-string, no-retry, retry, eap-success, eap-failure, Steps, unread, repeat, not-taken, wrong-identifier, taken, supplying, Supplies}
+use Rattle.peerlaws.specs.Exact.{Repeats, Misnumbered, responding, Row, challenge, right-string, other-string, no-retry, retry, eap-success, eap-failure, Steps, unread, repeat, not-taken, wrong-identifier, taken, supplying, Supplies}
 use Rattle.peerlaws.specs.Exact as exact
 use Rattle.peerlaws.specs.Promises.{RequestKept, RetryAnswersC, Responds, RandomOnlyInResponse, RandomOnlyInSupply}
 use Rattle.peerlaws.proofs.Forward.{id-here, chap-here, cut-most, resumes-so}

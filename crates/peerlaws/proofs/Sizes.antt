@@ -9,12 +9,13 @@ use Rattle.octets.proofs.Lists.{length-cells, length-sized}
 use Rattle.answer.specs.Outcome.{Outcome}
 use Rattle.answer.specs.Sizes.{maxPacket, maxName}
 use Rattle.answer.specs.declared.ChapId.{ChapId}
+use Rattle.mschap.proofs.Responses.{responses-sized}
 use Rattle.packet.specs.declared.Packet.{Packet}
 use Rattle.packet.specs.Reader.{challengeIn}
 use Rattle.peer.specs.declared.Stage.{Stage}
 use Rattle.peer.specs.declared.Stage.the-variants.{Begin, Failed}
 use Rattle.peer.specs.declared.Peer.{Peer}
-use Rattle.peer.specs.State.{replyRoom, credentialsOf, initial, staged, answered, responded, awaiting, supplied as suppliedState}
+use Rattle.peer.specs.State.{replyRoom, stringTo, credentialsOf, initial, staged, answered, responded, awaiting, supplied as suppliedState}
 use Rattle.peer.specs.Calls.{newOf, renewedIn}
 use Rattle.peerlaws.specs.Runs.{Call, step, supply, giveUp, callOf, IsCredentials, IsPeer, IsCall}
 use Rattle.peerlaws.proofs.Views.{Moved, responds, accepts, fails, waits, succeeds, ends, Stepped, stepped, Supplied, supplied, GaveUp, gave-up}
@@ -27,7 +28,7 @@ pub is-initial : (stage : Stage) (name hash : List ℕ) → length hash ≡ 16 �
 unfolding initial
 is-initial stage name hash h = record {
   credentials = is-credentials name hash h;
-  challenges = record { authenticator = length-replicate {A = ℕ} 16 0; own = length-replicate {A = ℕ} 16 0 };
+  challenges = record { authenticator = length-replicate {A = ℕ} 16 0; own = length-replicate {A = ℕ} 16 0; expected = length-replicate {A = ℕ} 20 0 };
   request = length-replicate {A = ℕ} maxPacket 0;
   reply = length-replicate {A = ℕ} replyRoom 0;
 }
@@ -50,16 +51,16 @@ module _ (p : Peer) (i : IsPeer p) where
   is-answered stage q w = record { credentials = i .credentials; challenges = i .challenges; request = length-sized maxPacket q; reply = length-sized replyRoom w }
 
   is-responded : (k : Packet) (q random w : List ℕ) → length random ≡ 16 → IsPeer (responded (challengeIn k q) random (k .chapid) q w p)
-  unfolding responded challengeIn
-  is-responded k q random w r = record { credentials = i .credentials; challenges = record { authenticator = length-sized 16 _; own = r }; request = length-sized maxPacket q; reply = length-sized replyRoom _ }
+  unfolding responded challengeIn stringTo
+  is-responded k q random w r = record { credentials = i .credentials; challenges = record { authenticator = length-sized 16 _; own = r; expected = responses-sized .authenticator _ _ _ _ _ }; request = length-sized maxPacket q; reply = length-sized replyRoom _ }
 
   pub is-awaiting : (c q : List ℕ) → length c ≡ 16 → IsPeer (awaiting c q p)
   unfolding awaiting
-  is-awaiting c q h = record { credentials = i .credentials; challenges = record { authenticator = h; own = i .challenges .own }; request = length-sized maxPacket q; reply = i .reply }
+  is-awaiting c q h = record { credentials = i .credentials; challenges = record { authenticator = h; own = i .challenges .own; expected = i .challenges .expected }; request = length-sized maxPacket q; reply = i .reply }
 
   is-supplied : (name hash random : List ℕ) (chapid : ChapId) (w : List ℕ) → length hash ≡ 16 → length random ≡ 16 → IsPeer (suppliedState name hash random chapid w p)
-  unfolding suppliedState
-  is-supplied name hash random chapid w e r = record { credentials = is-credentials name hash e; challenges = record { authenticator = i .challenges .authenticator; own = r }; request = i .request; reply = length-sized replyRoom _ }
+  unfolding suppliedState stringTo
+  is-supplied name hash random chapid w e r = record { credentials = is-credentials name hash e; challenges = record { authenticator = i .challenges .authenticator; own = r; expected = responses-sized .authenticator _ _ _ _ _ }; request = i .request; reply = length-sized replyRoom _ }
 
   moved-is : {k : Packet} {q random : List ℕ} {room : ℕ} {o : Outcome Peer} → length random ≡ 16 → Moved p k q random room o → IsPeer (o .state)
   moved-is {k} {q} {random} r (responds f g l) = is-responded k q random _ r

@@ -17,8 +17,8 @@ use Rattle.packet.specs.Forms.{successResponse, failureResponse}
 use Rattle.peer.specs.declared.Stage.the-variants.{Begin, ChallengeResponseSent, SuccessResponseSent, FailureResponseSent, Waiting, Success, Failed}
 use Rattle.peer.specs.declared.Peer.{Peer}
 use Rattle.peer.specs.State.{lastReply, rightDigits, staged, answered, awaiting}
-use Rattle.peer.specs.Calls.{digitsIn, renewedIn, stepOf, responseBy, supplyOf, giveUpOf}
-use Rattle.peerlaws.specs.Exact.{Repeats, responseIn, responding, Row, challenge, right-string, other-string, no-retry, retry, eap-success, eap-failure, Steps, unread, repeat, not-taken, wrong-identifier, taken, supplying, Supplies, GivesUp}
+use Rattle.peer.specs.Calls.{renewedIn, digitsIn, responseIn, stepOf, responseBy, supplyOf, giveUpOf}
+use Rattle.peerlaws.specs.Exact.{Repeats, responding, Row, challenge, right-string, other-string, no-retry, retry, eap-success, eap-failure, Steps, unread, repeat, not-taken, wrong-identifier, taken, supplying, Supplies, GivesUp}
 use Rattle.peerlaws.specs.Exact as exact
 use Rattle.peerlaws.proofs.Exact.{steps, supplies, gives-up}
 

@@ -16,9 +16,9 @@ use Rattle.packet.specs.Reader.{readPacket, challengeIn}
 use Rattle.packet.specs.Forms.{successResponse, failureResponse}
 use Rattle.peer.specs.declared.Stage.the-variants.{Begin, ChallengeResponseSent, SuccessResponseSent, FailureResponseSent, Waiting, Success, Failed}
 use Rattle.peer.specs.declared.Peer.{Peer}
-use Rattle.peer.specs.State.{ownName, lastRequest, lastReply, lastId, lastChapId, responseTo, rightDigits, initial, staged, answered, responded, awaiting, supplied}
+use Rattle.peer.specs.State.{lastRequest, lastReply, lastId, lastChapId, rightDigits, initial, staged, answered, responded, awaiting, supplied}
 use Rattle.peer.specs.Moves.{takes, sent}
-use Rattle.peer.specs.Calls.{newOf, renewedIn, digitsIn, stepOf, responseBy, supplyOf, giveUpOf}
+use Rattle.peer.specs.Calls.{newOf, renewedIn, digitsIn, responseIn, stepOf, responseBy, supplyOf, giveUpOf}
 
 -- ---- a packet: k is what was read of it, and q its first L octets
 -- the repeat rule's case: "in the three SENT stages a Request whose first L octets equal the last answered request's"
@@ -35,9 +35,6 @@ pub data Misnumbered (p : Peer) (k : Packet) : Type 0 where
   other-end : sent (p .stage) ≡ true → isRequest (k .kind) ≡ false → (k .id .0 ≡ lastId p → ⊥) → Misnumbered p k
 
 -- the Response to the Challenge q, and what it leaves
-abbrev pub responseIn : Peer → Packet → List ℕ → List ℕ → List ℕ
-responseIn p k q random = responseTo (k .id .0) (k .chapid .0) (challengeIn k q) random (ownName p) (p .credentials .hash)
-
 abbrev pub responding : Peer → Packet → List ℕ → List ℕ → Outcome Peer
 responding p k q random = outcome 0 (responseIn p k q random) (responded (challengeIn k q) random (k .chapid) q (responseIn p k q random) p)
 

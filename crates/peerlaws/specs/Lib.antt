@@ -1,4 +1,5 @@
 pub mod Runs
 pub mod Exact
 pub mod Promises
+pub mod Expected
 pub mod Remarks

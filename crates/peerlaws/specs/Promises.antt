@@ -23,7 +23,7 @@ use Rattle.mschap.specs.Responses.{ntResponse, authenticatorOf, digitsOf}
 use Rattle.peer.specs.declared.Stage.{Stage}
 use Rattle.peer.specs.declared.Stage.the-variants.{Begin, ChallengeResponseSent, SuccessResponseSent, FailureResponseSent, Waiting, Success, Failed}
 use Rattle.peer.specs.declared.Peer.{Peer}
-use Rattle.peer.specs.State.{replyRoom, ownName, lastRequest, lastReply, lastId, responseTo, outstanding, rightDigits, staged, answered, supplied}
+use Rattle.peer.specs.State.{replyRoom, ownName, lastRequest, lastReply, lastId, responseTo, outstanding, computedString, rightDigits, staged, answered, supplied}
 use Rattle.peer.specs.Moves.{takes, moveOf, sent, waiting}
 use Rattle.peer.specs.Calls.{newOf, renewedIn, digitsIn, movedOf, stepOf, supplyOf}
 use Rattle.peerlaws.specs.Exact.{Repeats, responding, supplying}
@@ -50,13 +50,13 @@ AnswersLeave =
     Leaves p c b k n s b′
 
 -- ---- 2. A Success Response goes out first only in CHALLENGE_RESPONSE_SENT, and only for the right string
--- a Success Request, right string
-pub record Confirms (p : Peer) (s : List ℕ) : Type 0 where
+-- a Success Request with these digits
+pub record Confirms (digits : List ℕ) (p : Peer) (s : List ℕ) : Type 0 where
   pub stage : p .stage ≡ ChallengeResponseSent
   pub packet : Packet
   pub reads : readPacket end.Peer s ≡ gives packet
   pub success : packet .kind ≡ kind.SuccessRequest
-  pub right : digitsIn packet (take (packet .length) s) ≡ rightDigits p
+  pub right : digitsIn packet (take (packet .length) s) ≡ digits
 
 -- the call is a step, with such a packet
 abbrev pub ByStep : (Peer → List ℕ → Type 0) → Peer → Call → Type 0
@@ -65,7 +65,7 @@ ByStep P p (supply name hash random room) = ⊥
 ByStep P p giveUp = ⊥
 
 abbrev pub SuccessOnlyIfRight : Type 0
-SuccessOnlyIfRight = (p : Peer) (c : Call) (id : ℕ) → callOf p c .octets ≡ successResponse id → ByStep Repeats p c ⊎ ByStep Confirms p c
+SuccessOnlyIfRight = (p : Peer) (c : Call) (id : ℕ) → callOf p c .octets ≡ successResponse id → ByStep Repeats p c ⊎ ByStep (Confirms (rightDigits p)) p c
 
 -- "Success Request, right string" and "other string", at any tail: the digits alone decide
 abbrev pub AnyTailTaken : Type 0
@@ -77,15 +77,15 @@ AnyTailTaken =
     (pick (same digits (rightDigits p)) (outcome 0 (successResponse i) (answered SuccessResponseSent q (successResponse i) p))
     (outcome 3 [] (staged Failed p)))
 
--- one of the calls brought it, and was answered 0
+-- one of the calls brought the string that 01 defines, and was answered 0
 abbrev pub Accepts : Peer → Call → Type 0
-Accepts p c = ByStep Confirms p c × (callOf p c .number ≡ 0)
+Accepts p c = ByStep (Confirms (digitsOf (computedString p))) p c × (callOf p c .number ≡ 0)
 
 abbrev pub SomeAccepts : Peer → List Call → Type 0
 SomeAccepts p [] = ⊥
 SomeAccepts p (c ∷ cs) = Accepts p c ⊎ SomeAccepts (callOf p c .state) cs
 
--- over any calls on from a made peer p, of which c is the last: no Success Response, and no answer 2, without the right string
+-- over any calls on from a made peer p, of which c is the last: no Success Response, and no answer 2, without it
 abbrev pub SuccessEarned : Type 0
 SuccessEarned =
     (name hash : List ℕ) (cs : List Call) (c : Call) (p : Peer) (id : ℕ) → length hash ≡ 16 → AreCalls cs → p ≡ newOf name hash .state →

@@ -41,6 +41,7 @@ pub record IsCredentials (c : Credentials) : Type 0 where
 pub record IsChallenges (c : Challenges) : Type 0 where
   pub authenticator : length (c .authenticator) ≡ 16
   pub own : length (c .own) ≡ 16
+  pub expected : length (c .expected) ≡ 20
 
 pub record IsPeer (p : Peer) : Type 0 where
   pub credentials : IsCredentials (p .credentials)

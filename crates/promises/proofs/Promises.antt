@@ -23,6 +23,7 @@ use Rattle.peerlaws.proofs.Exact.{new-exact, step-exact, supply-exact, give-up-
 use Rattle.peerlaws.proofs.Promises as peer
 use Rattle.peerlaws.proofs.Promises.{success-only-if-right, no-packet-taken}
 use Rattle.peerlaws.proofs.Earned.{success-earned}
+use Rattle.peerlaws.proofs.Expected.{expected-string, answers-stay}
 use Rattle.peerlaws.proofs.Consistent.{state-consistent, repeat-rule-reached}
 use Rattle.peerlaws.proofs.Repeats.{repeat-rule}
 use Rattle.peerlaws.proofs.Identifiers.{equality-only}
@@ -45,7 +46,7 @@ use Rattle.conversation.proofs.Tries.{tries-succeed, tries-fail}
 use Rattle.conversation.proofs.Premises.{premises-met}
 use Rattle.state.proofs.Trips.{any-octets-stand, peer-back, server-back}
 use Rattle.state.proofs.Fields.{peer-octets-back, server-octets-back}
-use Rattle.calls.proofs.PeerRuns.{peer-carried}
+use Rattle.calls.proofs.PeerRuns.{peer-carried, answers-stay-at}
 use Rattle.calls.proofs.ServerRuns.{server-carried, wrong-guess-at}
 use Rattle.calls.proofs.Answers.{word-back, peer-answers-at, server-answers-at}
 use Rattle.calls.proofs.Stateless.{stateless-answer}
@@ -159,7 +160,14 @@ beyond = record {
 }
 
 requests : Requests
-requests = record { success-reads = success-reads; success-messages-apart = success-messages-apart; any-tail-taken = any-tail-taken }
+requests = record {
+  success-reads = success-reads;
+  success-messages-apart = success-messages-apart;
+  any-tail-taken = any-tail-taken;
+  expected-string = expected-string;
+  answers-stay = answers-stay;
+  answers-stay-at = answers-stay-at;
+}
 
 pub promises : Promises
 promises = record { demand1 = demand1; demand2 = demand2; demand3 = demand3; beyond = beyond; requests = requests }

@@ -14,6 +14,7 @@ use Rattle.verdict.specs.Promises.{VerdictsExact}
 use Rattle.peerlaws.specs.Exact.{NewExact, StepExact, SupplyExact, GiveUpExact}
 use Rattle.peerlaws.specs.Promises as peer
 use Rattle.peerlaws.specs.Promises.{SuccessOnlyIfRight, SuccessEarned, RepeatRule, RepeatRuleReached, EqualityOnly, NoPacketTaken, RepliesReadBack, AnyChapIdTaken, StateConsistent, RequestKept, RetryAnswersC, RandomOnlyInResponse, RandomOnlyInSupply, AnyTailTaken}
+use Rattle.peerlaws.specs.Expected.{ExpectedString, AnswersStay}
 use Rattle.peerlaws.specs.Remarks.{PretendsNot}
 use Rattle.server.specs.Runs.{ContractAnswers, serverStep}
 use Rattle.server.specs.Effects.{EffectsExact}
@@ -29,7 +30,7 @@ use Rattle.conversation.specs.Login.{LoginSucceeds}
 use Rattle.conversation.specs.Tries.{TriesSucceed, TriesFail}
 use Rattle.conversation.specs.Premises.{PremisesMet}
 use Rattle.state.specs.Promises.{AnyOctetsStand, PeerBack, ServerBack, PeerOctetsBack, ServerOctetsBack}
-use Rattle.calls.specs.Run.{PeerCarried, ServerCarried, WrongGuessAt}
+use Rattle.calls.specs.Run.{PeerCarried, AnswersStayAt, ServerCarried, WrongGuessAt}
 use Rattle.calls.specs.Promises.{WordBack, PeerAnswersAt, ServerAnswersAt, PeerStays, ServerStays, ResendLeaves, StatelessAnswer}
 
 -- ---- Demand 1: every call, on every input, gives one answer of the list; a refusal changes no state and no lent octet
@@ -179,6 +180,11 @@ pub record Requests : Type 0 where
   pub success-reads : SuccessReads
   pub success-messages-apart : SuccessMessagesApart
   pub any-tail-taken : AnyTailTaken
+  -- [6]: "compute the authenticator string's 20 octets when the Response is made and keep them in the state"; "they equal the value defined in 01
+  -- while a Response is outstanding, and all answers stay as they are"
+  pub expected-string : ExpectedString
+  pub answers-stay : AnswersStay
+  pub answers-stay-at : AnswersStayAt
 
 pub record Promises : Type 0 where
   pub demand1 : Demand1

@@ -12,7 +12,7 @@ use Rattle.octets.proofs.Lists.{sized-take, sized-own}
 use Rattle.answer.specs.Sizes.{maxPacket, maxName}
 use Rattle.peer.specs.State.{replyRoom}
 use Rattle.server.specs.State.{requestRoom}
-use Rattle.state.specs.PeerOctets.{hashAt, authenticatorAt, ownAt, nameAt, requestAt, replyAt, peerStageOf, peerStageNumber, peerOf, octetsOfPeer}
+use Rattle.state.specs.PeerOctets.{hashAt, authenticatorAt, ownAt, nameAt, requestAt, replyAt, expectedAt, peerStageOf, peerStageNumber, peerOf, octetsOfPeer}
 use Rattle.state.specs.ServerOctets as server
 use Rattle.state.specs.ServerOctets.{challengeAt, serverStageOf, serverStageNumber, serverOf, octetsOfServer}
 use Rattle.state.specs.Promises.{PeerOctetsBack, ServerOctetsBack}
@@ -55,7 +55,8 @@ unfolding peerOf octetsOfPeer flatten
 peer-octets-back s z =
     let l = z .long in
     let o = z .octets in
-    let reply = append-nil _ ∙ last-on s replyAt replyRoom l in
+    let expected = append-nil _ ∙ last-on s expectedAt 20 l in
+    let reply = field-on s replyAt replyRoom (omega arith) expected in
     let request = field-on s requestAt maxPacket (omega arith) reply in
     let name = field-on s nameAt maxName (omega arith) request in
     let own = field-on s ownAt 16 (omega arith) name in

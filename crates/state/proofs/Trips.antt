@@ -19,7 +19,7 @@ use Rattle.server.specs.declared.Stage.{Stage as ServerStage}
 use Rattle.server.specs.declared.Stage.the-variants as server
 use Rattle.server.specs.declared.Server.{Server}
 use Rattle.server.specs.State.{IsServer}
-use Rattle.state.specs.PeerOctets.{hashAt, authenticatorAt, ownAt, nameAt, requestAt, replyAt, peerFields, peerOctets, peerStageOf, peerStageNumber, peerOf, octetsOfPeer}
+use Rattle.state.specs.PeerOctets.{hashAt, authenticatorAt, ownAt, nameAt, requestAt, replyAt, expectedAt, peerFields, peerOctets, peerStageOf, peerStageNumber, peerOf, octetsOfPeer}
 use Rattle.state.specs.Promises.{AnyOctetsStand, PeerBack, ServerBack}
 use Rattle.state.specs.ServerOctets.{serverFields, serverOctets, serverStageOf, serverStageNumber, serverOf, octetsOfServer}
 
@@ -78,16 +78,17 @@ peer-back p z =
     let f4 = field-at (f3 .1) (z .credentials .name) in
     let f5 = field-at (f4 .1) (z .request) in
     let f6 = field-at (f5 .1) (z .reply) in
-    simp (peer-stage (p .stage), split (p .credentials .namelen), split (p .requestlen), split (p .replylen), f1 .0, f2 .0, f3 .0, f4 .0, f5 .0, f6 .0)
+    let f7 = field-at (f6 .1) (z .challenges .expected) in
+    simp (peer-stage (p .stage), split (p .credentials .namelen), split (p .requestlen), split (p .replylen), f1 .0, f2 .0, f3 .0, f4 .0, f5 .0, f6 .0, f7 .0)
 
 -- the same fields, the same peer
 pub same-peer : (p q : Peer)
     → p .stage ≡ q .stage
     → p .credentials .name ≡ q .credentials .name → p .credentials .namelen ≡ q .credentials .namelen → p .credentials .hash ≡ q .credentials .hash
     → p .challenges .authenticator ≡ q .challenges .authenticator → p .challenges .own ≡ q .challenges .own → p .challenges .chapid .0 ≡ q .challenges .chapid .0
-    → p .request ≡ q .request → p .requestlen ≡ q .requestlen → p .reply ≡ q .reply → p .replylen ≡ q .replylen
+    → p .request ≡ q .request → p .requestlen ≡ q .requestlen → p .reply ≡ q .reply → p .replylen ≡ q .replylen → p .challenges .expected ≡ q .challenges .expected
     → p ≡ q
-same-peer p q a b c d e f g h j k l = λ i. record { stage = a i; credentials = record { name = b i; namelen = c i; hash = d i }; challenges = record { authenticator = e i; own = f i; chapid = record { 0 = g i } }; request = h i; requestlen = j i; reply = k i; replylen = l i }
+same-peer p q a b c d e f g h j k l m = λ i. record { stage = a i; credentials = record { name = b i; namelen = c i; hash = d i }; challenges = record { authenticator = e i; own = f i; chapid = record { 0 = g i }; expected = m i }; request = h i; requestlen = j i; reply = k i; replylen = l i }
 
 pub stage-read : (n m : ℕ) (x : PeerStage) → n ≡ m → x ≡ peerStageOf n → x ≡ peerStageOf m
 stage-read n m x e f = cc
@@ -116,6 +117,7 @@ peer-sized s =
     (number-sized peerOctets s 4 (omega arith))
     (field-sized peerOctets s replyAt replyRoom (omega arith))
     (number-sized peerOctets s 6 (omega arith))
+    (field-sized peerOctets s expectedAt 20 (omega arith))
 
 -- any octets decode to a state
 pub is-peer : (s : List ℕ) → IsPeer (peerOf s)

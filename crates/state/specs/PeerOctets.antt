@@ -30,8 +30,11 @@ requestAt = nameAt + maxName
 abbrev pub replyAt : ℕ
 replyAt = requestAt + maxPacket
 
+abbrev pub expectedAt : ℕ
+expectedAt = replyAt + replyRoom
+
 abbrev pub peerOctets : ℕ
-peerOctets = replyAt + replyRoom
+peerOctets = expectedAt + 20
 
 abbrev pub peerStageNumber : Stage → ℕ
 peerStageNumber Begin = 0
@@ -51,7 +54,7 @@ unfoldable pub peerOf : List ℕ → Peer
 peerOf s = record {
   stage = peerStageOf (getD s 0 0);
   credentials = record { name = sized maxName (drop nameAt s); namelen = numberAt Little s 2; hash = sized 16 (drop hashAt s) };
-  challenges = record { authenticator = sized 16 (drop authenticatorAt s); own = sized 16 (drop ownAt s); chapid = record { 0 = getD s 1 0 } };
+  challenges = record { authenticator = sized 16 (drop authenticatorAt s); own = sized 16 (drop ownAt s); chapid = record { 0 = getD s 1 0 }; expected = sized 20 (drop expectedAt s) };
   request = sized maxPacket (drop requestAt s);
   requestlen = numberAt Little s 4;
   reply = sized replyRoom (drop replyAt s);
@@ -71,6 +74,7 @@ peerFields p =
     peerNumbers p
     ∷ p .credentials .hash ∷ p .challenges .authenticator ∷ p .challenges .own
     ∷ p .credentials .name ∷ p .request ∷ p .reply
+    ∷ p .challenges .expected
     ∷ []
 
 unfoldable pub octetsOfPeer : Peer → List ℕ

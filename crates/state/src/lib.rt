@@ -1,6 +1,6 @@
-// Both ends' states as octets, and back. Lengths have their low octet first. The peer's 1647:
+// Both ends' states as octets, and back. Lengths have their low octet first. The peer's 1667:
 //   0 stage, 1 MS-CHAPv2-ID, 2 name length, 4 request length, 6 reply length, 8 password hash, 24 authenticator challenge,
-//   40 peer challenge, 56 name, 312 request, 1332 reply.
+//   40 peer challenge, 56 name, 312 request, 1332 reply, 1647 expected string.
 // The server's 304:
 //   0 stage, 1 Identifier, 2 MS-CHAPv2-ID, 3 retries, 4 request length, 6 challenge, 22 request.
 ghost use mathlib.Core.Path.{_≡_};
@@ -48,7 +48,9 @@ const PEER_REQUEST_AT: usize = NAME_AT + Peer::MAX_NAME;
 
 const REPLY_AT: usize = PEER_REQUEST_AT + Peer::MAX_PACKET;
 
-pub const PEER_OCTETS: usize = REPLY_AT + Peer::REPLY_ROOM;
+const EXPECTED_AT: usize = REPLY_AT + Peer::REPLY_ROOM;
+
+pub const PEER_OCTETS: usize = EXPECTED_AT + 20;
 
 fn peer_stage_of(n: u8) -> peer::Stage
     ensures { λ r. ⌜ r ≡ peerStageOf n ⌝ }
@@ -94,6 +96,8 @@ fn peer_in(state: &[u8]) -> Peer
     field(&mut request, state, PEER_REQUEST_AT);
     let mut reply = [0u8; Peer::REPLY_ROOM];
     field(&mut reply, state, REPLY_AT);
+    let mut expected = [0u8; 20];
+    field(&mut expected, state, EXPECTED_AT);
     let stage = peer_stage_of(octets::octet(state, 0));
     let chapid = octets::octet(state, 1);
     let namelen = length_at(state, 2);
@@ -110,6 +114,7 @@ fn peer_in(state: &[u8]) -> Peer
             authenticator,
             own,
             chapid: ChapId(chapid),
+            expected,
         },
         request,
         requestlen,
@@ -159,7 +164,8 @@ pub fn encode_peer(p: Peer, state: &mut [u8])
     let at = octets::append(state, at, &p.challenges.own);
     let at = octets::append(state, at, &p.credentials.name);
     let at = octets::append(state, at, &p.request);
-    octets::append(state, at, &p.reply);
+    let at = octets::append(state, at, &p.reply);
+    octets::append(state, at, &p.challenges.expected);
 }
 
 // ---- the server

@@ -117,6 +117,24 @@ impl Rows<'_> {
         };
         self.on_state("peer step that makes a Response", call, &state);
         self.peer_step_on_a_struct(call, &state, &packet);
+        made_alike(call, &mut state, &mut [0; 400]);
+        self.success_taken(&state);
+    }
+
+    /// The server's string, to the Response that the state keeps.
+    fn success_taken(&mut self, state: &[u8]) {
+        let exchange = Exchange {
+            name: b"User".to_vec(),
+            hash: HASH,
+            theirs: THEIRS,
+            own: OWN,
+        };
+        let packet = success(ID + 1, ID + 1, &exchange.string(), b"");
+        let call = Call::PeerStep {
+            packet: &packet,
+            random: &OWN,
+        };
+        self.on_state("peer step that takes a Success Request", call, state);
     }
 
     /// The other without octets: on a copy of its own struct.

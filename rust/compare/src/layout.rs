@@ -2,7 +2,7 @@
 
 use second::{ChapId, Identifier, Peer, PeerStage, Server, ServerStage};
 
-pub const PEER: usize = 1647;
+pub const PEER: usize = 1667;
 pub const SERVER: usize = 304;
 
 /// Where the fields begin that tests write to.
@@ -13,6 +13,7 @@ pub mod at {
     pub const PEER_REQUEST_LENGTH: usize = 4;
     pub const PEER_REPLY_LENGTH: usize = 6;
     pub const PEER_REQUEST: usize = 312;
+    pub const PEER_EXPECTED: usize = 1647;
     pub const SERVER_ID: usize = 1;
     pub const SERVER_CHAPID: usize = 2;
     pub const SERVER_RETRIES: usize = 3;
@@ -57,6 +58,7 @@ pub fn peer_of(octets: &[u8; PEER]) -> Peer {
         name: fields.array(),
         request: fields.array(),
         reply: fields.array(),
+        expected: fields.array(),
     }
 }
 
@@ -72,6 +74,7 @@ pub fn put_peer(peer: &Peer, octets: &mut [u8; PEER]) {
     room.put(&peer.name);
     room.put(&peer.request);
     room.put(&peer.reply);
+    room.put(&peer.expected);
     assert!(room.0.is_empty());
 }
 
@@ -160,6 +163,7 @@ mod tests {
         assert_eq!(peer.name, octets[56..312]);
         assert_eq!(peer.request, octets[312..1332]);
         assert_eq!(peer.reply, octets[1332..1647]);
+        assert_eq!(peer.expected, octets[1647..1667]);
 
         let octets: [u8; SERVER] = random.array();
         let server = server_of(&octets);

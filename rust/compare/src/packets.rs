@@ -1,6 +1,6 @@
 //! Packets and tables put together from their parts, well formed and not.
 
-use second::{mschap, Octets16};
+use second::{mschap, Octets16, Peer};
 
 use crate::random::Random;
 
@@ -88,6 +88,17 @@ impl Exchange {
             hash: random.array(),
             theirs: random.array(),
             own: random.array(),
+        }
+    }
+
+    /// What a peer's last Response was made of.
+    pub fn of(peer: &Peer) -> Exchange {
+        let length = usize::from(peer.name_len).min(peer.name.len());
+        Exchange {
+            name: peer.name[..length].to_vec(),
+            hash: peer.password_hash,
+            theirs: peer.authenticator_challenge,
+            own: peer.peer_challenge,
         }
     }
 

@@ -1,6 +1,8 @@
 //! The comparison finds what is planted: the second program against itself with one flaw.
 
 use compare::call::{by_second, Call};
+use compare::layout::{at, peer_of, PEER};
+use compare::packets::Exchange;
 use compare::pair::{Implementation, Pair};
 use compare::parts::PARTS;
 use compare::random::Random;
@@ -62,7 +64,7 @@ fn one_octet_of_a_state() {
     let found = difference(|call, state, out| {
         let word = by_second(call, state, out);
         if matches!(call, Call::PeerSupply { .. }) && word as u8 == 0 {
-            state[1646] ^= 1;
+            state[PEER - 1] ^= 1;
         }
         word
     });
@@ -271,4 +273,33 @@ fn one_octet_before_the_new_account() {
     assert!(found
         .expect("a difference")
         .starts_with("both appended something else"));
+}
+
+/// In CHALLENGE_RESPONSE_SENT, a step by the string that the state's other fields call for,
+/// whatever it keeps.
+fn computing(call: &Call, state: &mut [u8], out: &mut [u8]) -> u64 {
+    let octets = <[u8; PEER]>::try_from(&*state);
+    let (Call::PeerStep { .. }, Ok(before @ [1, ..])) = (call, octets) else {
+        return by_second(call, state, out);
+    };
+    let peer = peer_of(&before);
+    state[at::PEER_EXPECTED..].copy_from_slice(&Exchange::of(&peer).string());
+    let word = by_second(call, state, out);
+    state[at::PEER_EXPECTED..].copy_from_slice(&peer.expected);
+    word
+}
+
+#[test]
+fn a_string_computed_when_it_comes() {
+    let found = difference(computing).expect("a difference");
+    assert!(found.contains("zt_peer_step"));
+}
+
+/// Conversations bring no state in which the two strings differ.
+#[test]
+fn nothing_over_conversations_where_it_is_computed() {
+    let (name, run) = PARTS[1];
+    assert!(name.contains("conversations"));
+    let mut pair = Pair::of(computing, by_second);
+    assert!(run(&mut pair, &mut Random::new(1, 0, 1)).is_ok());
 }

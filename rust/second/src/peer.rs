@@ -36,6 +36,8 @@ pub struct Peer {
     /// The reply to it.
     pub reply: [u8; MAX_RESPONSE],
     pub reply_len: u16,
+    /// The right string for a Success Request, worked out with the last Response.
+    pub expected: AuthenticatorString,
 }
 
 /// The moves of the stage table.
@@ -103,6 +105,7 @@ impl Peer {
             request_len: 0,
             reply: [0; MAX_RESPONSE],
             reply_len: 0,
+            expected: [0; 20],
         }
     }
 
@@ -117,7 +120,7 @@ impl Peer {
         self.check_identifier(&packet)?;
         match taken {
             Move::Respond => self.respond(&packet, octets, random, reply),
-            Move::Verify if packet.string != self.right_string() => {
+            Move::Verify if packet.string != self.expected => {
                 self.stage = Failed;
                 Ok((ENDED, 0))
             }
@@ -208,10 +211,12 @@ impl Peer {
             name: self.name(),
             password_hash: &self.password_hash,
         };
-        let n = credentials.write(packet.id, packet.chapid, &packet.challenge, random, reply)?;
+        let (n, expected) =
+            credentials.write(packet.id, packet.chapid, &packet.challenge, random, reply)?;
         self.authenticator_challenge = packet.challenge;
         self.peer_challenge = *random;
         self.chapid = packet.chapid;
+        self.expected = expected;
         Ok(self.sent(ChallengeResponseSent, octets, &reply[..n]))
     }
 
@@ -234,12 +239,13 @@ impl Peer {
         };
         let challenge = &self.authenticator_challenge;
         let (id, chapid) = (self.last_identifier(), self.last_chapid());
-        let n = credentials.write(id, chapid, challenge, random, reply)?;
+        let (n, expected) = credentials.write(id, chapid, challenge, random, reply)?;
         self.stage = ChallengeResponseSent;
         hold(&mut self.name, &mut self.name_len, name);
         self.password_hash = *password_hash;
         self.peer_challenge = *random;
         self.chapid = chapid;
+        self.expected = expected;
         hold(&mut self.reply, &mut self.reply_len, &reply[..n]);
         Ok((REPLY, n))
     }
@@ -260,15 +266,6 @@ impl Peer {
         (NEEDS_CREDENTIALS, 0)
     }
 
-    /// The string that the outstanding Response calls for.
-    fn right_string(&self) -> AuthenticatorString {
-        let user = mschap::user(self.name());
-        let challenge_hash =
-            mschap::hash_challenges(&self.peer_challenge, &self.authenticator_challenge, user);
-        let response = mschap::respond(&challenge_hash, &self.password_hash);
-        mschap::sign(&self.password_hash, &response, &challenge_hash)
-    }
-
     fn name(&self) -> &[u8] {
         held(&self.name, self.name_len)
     }
@@ -281,7 +278,7 @@ struct Credentials<'a> {
 }
 
 impl Credentials<'_> {
-    /// Writes the Response, or answers 20.
+    /// Writes the Response and gives n and the string it calls for, or answers 20.
     fn write(
         &self,
         id: Identifier,
@@ -289,11 +286,13 @@ impl Credentials<'_> {
         challenge: &Octets16,
         random: &Octets16,
         reply: &mut [u8],
-    ) -> Result<usize, u8> {
+    ) -> Result<(usize, AuthenticatorString), u8> {
         let user = mschap::user(self.name);
         let challenge_hash = mschap::hash_challenges(random, challenge, user);
         let response = mschap::respond(&challenge_hash, self.password_hash);
-        packet::write_response(id, chapid, random, &response, self.name, reply)
+        let n = packet::write_response(id, chapid, random, &response, self.name, reply)?;
+        let expected = mschap::sign(self.password_hash, &response, &challenge_hash);
+        Ok((n, expected))
     }
 }
 

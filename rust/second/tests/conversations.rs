@@ -70,7 +70,7 @@ fn converse(random: &mut Random) {
 
 fn any_packet(random: &mut Random) -> Vec<u8> {
     let (id, chapid) = (random.below(3) as u8, random.below(3) as u8);
-    let (string, size) = (random.array(), random.below(40));
+    let (string, size) = ([random.below(2) as u8; 20], random.below(40));
     let name = random.octets(size);
     let mut packet = match random.below(10) {
         0 => challenge(id, chapid, &[random.below(2) as u8; 16], &name),
@@ -85,7 +85,9 @@ fn any_packet(random: &mut Random) -> Vec<u8> {
         _ => name,
     };
     if random.below(4) == 0 && !packet.is_empty() {
-        let at = random.below(packet.len());
+        let header = packet.len().min(9);
+        let bound = [header, packet.len()][random.below(2)];
+        let at = random.below(bound);
         packet[at] ^= 1 << random.below(8);
     }
     packet
@@ -122,9 +124,19 @@ fn any_peer(random: &mut Random) -> Peer {
         request_len: any_length(random, 1020),
         reply: random.array(),
         reply_len: any_length(random, 315),
+        expected: [random.below(2) as u8; 20],
     };
     peer.request[1] = random.below(3) as u8;
     peer
+}
+
+/// A Response sets the kept string; all else leaves it.
+fn string_after(before: &Peer, peer: &Peer, responds: bool) -> [u8; 20] {
+    if responds {
+        defined_string(peer)
+    } else {
+        before.expected
+    }
 }
 
 #[test]
@@ -132,11 +144,14 @@ fn any_peer_takes_any_packet() {
     let mut random = Random(2);
     let mut seen = [0; 24];
     for _ in 0..4000 {
-        let mut peer = any_peer(&mut random);
+        let before = any_peer(&mut random);
+        let mut peer = before.clone();
         let packet = any_packet(&mut random);
         let room = random.below(400);
         let (number, written) = step_in(&mut peer, &packet, &random.array(), room);
         seen[usize::from(number)] += 1;
+        let responds = before.stage == PeerStage::Begin && number == 0;
+        assert_eq!(peer.expected, string_after(&before, &peer, responds));
         if number == 0 {
             let held = usize::from(peer.reply_len).min(315);
             assert_eq!(written, peer.reply[..held]);
@@ -148,9 +163,11 @@ fn any_peer_takes_any_packet() {
         }
         let size = random.below(300);
         let name = random.octets(size);
-        let mut other = any_peer(&mut random);
+        let before = any_peer(&mut random);
+        let mut other = before.clone();
         let (number, _) = supply_in(&mut other, &name, &random.array(), random.below(400));
         assert!([0, 19, 20, 23].contains(&number));
+        assert_eq!(other.expected, string_after(&before, &other, number == 0));
         assert!([3, 19].contains(&give_up(&mut any_peer(&mut random)).0));
     }
     for number in [0, 1, 2, 3, 10, 11, 13, 14, 15, 16, 17, 18, 19, 20] {

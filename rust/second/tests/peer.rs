@@ -1,5 +1,5 @@
 //! The peer: every row of its stage table, the whole state after each move, the repeat rule, 18 to
-//! 20 and 23 with their order, and states that were handed in.
+//! 20 and 23 with their order, the kept string, and states that were handed in.
 
 mod common;
 
@@ -34,19 +34,14 @@ fn expected_response(id: u8, chapid: u8, challenge: &Octets16, name: &[u8]) -> V
     response(id, chapid, &RANDOM, &nt, name)
 }
 
-/// The string for the peer's own fields.
-fn right_string(peer: &Peer) -> [u8; 20] {
-    let name = &peer.name[..usize::from(peer.name_len).min(256)];
-    let user = mschap::user_of(name).unwrap();
-    let (own, other) = (&peer.peer_challenge, &peer.authenticator_challenge);
-    let nt = mschap::nt_response(other, own, user, &peer.password_hash).unwrap();
-    mschap::authenticator(&peer.password_hash, &nt, own, other, user).unwrap()
+fn wrong_string(peer: &Peer) -> [u8; 20] {
+    with_other_bit(&defined_string(peer), 152)
 }
 
-fn wrong_string(peer: &Peer) -> [u8; 20] {
-    let mut string = right_string(peer);
-    string[19] ^= 1;
-    string
+fn with_other_bit(string: &[u8; 20], bit: usize) -> [u8; 20] {
+    let mut other = *string;
+    other[bit / 8] ^= 1 << (bit % 8);
+    other
 }
 
 /// A peer brought to a stage by its moves. The last answered Identifier is 7, or 8 after a
@@ -58,10 +53,10 @@ fn made(stage: PeerStage) -> Peer {
     }
     let then = match stage {
         Begin | ChallengeResponseSent => vec![],
-        SuccessResponseSent => vec![success(8, 9, &right_string(&peer), "")],
+        SuccessResponseSent => vec![success(8, 9, &defined_string(&peer), "")],
         FailureResponseSent => vec![failure(8, 9, 691, 0, &FRESH, "")],
         Waiting => vec![failure(8, 33, 691, 1, &FRESH, "again")],
-        Success => vec![success(8, 9, &right_string(&peer), ""), eap(3, 8)],
+        Success => vec![success(8, 9, &defined_string(&peer), ""), eap(3, 8)],
         Failed => vec![eap(4, 7)],
     };
     for packet in &then {
@@ -79,6 +74,22 @@ fn last(peer: &Peer) -> u8 {
     }
 }
 
+/// A packet of every kind the peer reads. Only the EAP ones have the last answered Identifier.
+fn every_kind(peer: &Peer, right: &[u8; 20]) -> Vec<Vec<u8>> {
+    let (id, wrong) = (last(peer), with_other_bit(right, 0));
+    vec![
+        challenge(50, 1, &AUTHENTICATOR, b"s"),
+        success(50, 1, right, "M= S="),
+        success(50, 1, &wrong, ""),
+        failure(50, 1, 691, 0, &AUTHENTICATOR, ""),
+        failure(50, 1, 648, 1, &AUTHENTICATOR, ""),
+        eap(3, id),
+        eap(4, id),
+        success_and(50, 1, right, ""),
+        success_and(50, 1, &wrong, ""),
+    ]
+}
+
 #[test]
 fn made_from_name_and_hash() {
     let peer = fresh();
@@ -94,6 +105,7 @@ fn made_from_name_and_hash() {
         request_len: 0,
         reply: [0; 315],
         reply_len: 0,
+        expected: [0; 20],
     };
     let expected = Peer {
         name: padded(NAME),
@@ -121,18 +133,7 @@ fn stage_table() {
     let mut taken = 0;
     for stage in STAGES {
         let peer = made(stage);
-        let id = last(&peer);
-        let packets = [
-            challenge(50, 1, &AUTHENTICATOR, b"s"),
-            success(50, 1, &right_string(&peer), "M= S="),
-            success(50, 1, &wrong_string(&peer), ""),
-            failure(50, 1, 691, 0, &AUTHENTICATOR, ""),
-            failure(50, 1, 648, 1, &AUTHENTICATOR, ""),
-            eap(3, id),
-            eap(4, id),
-            success_and(50, 1, &right_string(&peer), ""),
-            success_and(50, 1, &wrong_string(&peer), ""),
-        ];
+        let packets = every_kind(&peer, &defined_string(&peer));
         for (kind, packet) in packets.iter().enumerate() {
             let (expected, next) = match (stage, kind) {
                 (Begin, 0) => (0, ChallengeResponseSent),
@@ -167,7 +168,7 @@ fn a_challenge_brings_a_response() {
         let expected = expected_response(id, chapid, &AUTHENTICATOR, NAME);
         let padding = [&packet[..], &[1, 2, 3]].concat();
         assert_eq!(step(&mut peer, &padding), (0, expected.clone()));
-        let state = Peer {
+        let mut state = Peer {
             stage: ChallengeResponseSent,
             authenticator_challenge: AUTHENTICATOR,
             peer_challenge: RANDOM,
@@ -178,6 +179,7 @@ fn a_challenge_brings_a_response() {
             reply_len: expected.len() as u16,
             ..fresh()
         };
+        state.expected = defined_string(&state);
         assert_eq!(peer, state);
     }
 }
@@ -187,12 +189,12 @@ fn requests_after_the_response() {
     let before = made(ChallengeResponseSent);
     let rows = [
         (
-            success(8, 77, &right_string(&before), "Willkommen"),
+            success(8, 77, &defined_string(&before), "Willkommen"),
             SuccessResponseSent,
             3,
         ),
         (
-            success_and(8, 77, &right_string(&before), ""),
+            success_and(8, 77, &defined_string(&before), ""),
             SuccessResponseSent,
             3,
         ),
@@ -278,7 +280,7 @@ fn waiting_keeps_the_request_and_c() {
         supply_in(&mut peer, b"other", &HASH, 64),
         (0, expected.clone())
     );
-    let state = Peer {
+    let mut state = Peer {
         stage: ChallengeResponseSent,
         name: padded(b"other"),
         name_len: 5,
@@ -289,6 +291,7 @@ fn waiting_keeps_the_request_and_c() {
         reply_len: 64,
         ..waiting
     };
+    state.expected = defined_string(&state);
     assert_eq!(peer, state);
     // Now the Failure Request is the last answered one.
     let mut again = peer.clone();
@@ -299,7 +302,7 @@ fn waiting_keeps_the_request_and_c() {
         18
     );
     assert_eq!(
-        step(&mut again, &success(9, 1, &right_string(&peer), "")),
+        step(&mut again, &success(9, 1, &defined_string(&peer), "")),
         (0, short(2, 9, 3))
     );
 }
@@ -344,18 +347,18 @@ fn supply_after_a_longer_name_leaves_zeros() {
 #[test]
 fn repeat_rule() {
     let sent = made(ChallengeResponseSent);
-    let bare = success_and(8, 9, &right_string(&sent), "");
+    let bare = success_and(8, 9, &defined_string(&sent), "");
     let mut confirmed = sent.clone();
     assert_eq!(step(&mut confirmed, &bare).0, 0);
     // With a tail it is another Request under the same Identifier, which this stage does not take.
-    let tailed = success(8, 9, &right_string(&sent), "");
+    let tailed = success(8, 9, &defined_string(&sent), "");
     assert_eq!(step(&mut confirmed, &tailed).0, 19);
     let rows = [
         (confirmed, bare),
         (sent.clone(), first_challenge()),
         (
             made(SuccessResponseSent),
-            success(8, 9, &right_string(&sent), ""),
+            success(8, 9, &defined_string(&sent), ""),
         ),
         (made(FailureResponseSent), failure(8, 9, 691, 0, &FRESH, "")),
     ];
@@ -383,7 +386,7 @@ fn repeat_rule() {
     // Elsewhere the rule is off.
     let mut ended = made(Success);
     assert_eq!(
-        step(&mut ended, &success(8, 9, &right_string(&sent), "")).0,
+        step(&mut ended, &success(8, 9, &defined_string(&sent), "")).0,
         19
     );
     // Only the last request counts.
@@ -407,9 +410,9 @@ fn repeat_rule() {
 fn wrong_identifiers() {
     let sent = made(ChallengeResponseSent);
     let requests = [
-        success(7, 9, &right_string(&sent), ""),
+        success(7, 9, &defined_string(&sent), ""),
         success(7, 9, &wrong_string(&sent), ""),
-        success_and(7, 9, &right_string(&sent), ""),
+        success_and(7, 9, &defined_string(&sent), ""),
         failure(7, 9, 691, 0, &FRESH, ""),
         failure(7, 9, 691, 1, &FRESH, ""),
     ];
@@ -477,7 +480,7 @@ fn lengths_past_their_arrays() {
     assert_eq!(step_in(&mut peer, &first_challenge(), &RANDOM, 314).0, 20);
     assert_eq!(step(&mut peer, &first_challenge()), (0, expected));
     assert_eq!((peer.name, peer.name_len), (before.name, 60_000)); // nothing normalised
-    let packet = success(1, 1, &right_string(&peer), "");
+    let packet = success(1, 1, &defined_string(&peer), "");
     assert_eq!(step(&mut peer, &packet).0, 0);
     assert_eq!(peer.name_len, 60_000);
 
@@ -522,16 +525,136 @@ fn requests_too_short_for_their_numbers() {
     assert_eq!(step(&mut longer, &first_challenge()).0, 19);
 }
 
+fn any_name(random: &mut Random) -> Vec<u8> {
+    let (size, domain) = (random.below(12), random.below(2));
+    let user = random.octets(size);
+    if domain == 1 {
+        [b"CAMP\\", &user[..]].concat()
+    } else {
+        user
+    }
+}
+
+/// A Response to that request is outstanding: the kept string is the defined one, also after a
+/// repeat and refused calls.
+fn assert_outstanding(peer: &mut Peer, request: &[u8]) {
+    assert_eq!(peer.stage, ChallengeResponseSent);
+    let (id, string) = (last(peer), defined_string(peer));
+    assert_eq!(peer.expected, string);
+    assert_eq!(step_in(peer, request, &[0; 16], ROOM).0, 0);
+    assert_eq!(step(peer, &request[..8]).0, 11);
+    assert_eq!(step(peer, &success(id, 9, &string, "")).0, 18);
+    assert_eq!(
+        step_in(peer, &success(50, 9, &string, ""), &RANDOM, 5).0,
+        20
+    );
+    assert_eq!(supply_in(peer, b"other", &[1; 16], ROOM).0, 19);
+    assert_eq!(give_up(peer).0, 19);
+    assert_eq!((peer.expected, defined_string(peer)), (string, string));
+}
+
 #[test]
-fn the_right_string_is_that_of_the_fields() {
-    let mut peer = made(ChallengeResponseSent);
-    peer.reply = [0; 315];
-    peer.reply_len = 0;
-    peer.name = padded(b"A\\other");
-    peer.name_len = 7;
-    peer.password_hash = [1; 16];
-    peer.peer_challenge = [2; 16];
-    peer.authenticator_challenge = [3; 16];
-    let packet = success(8, 9, &right_string(&peer), "");
-    assert_eq!(step(&mut peer, &packet), (0, short(2, 8, 3)));
+fn the_string_is_kept_over_logins_with_retries() {
+    let mut random = Random(4);
+    for _ in 0..50 {
+        let (_, mut peer) = Peer::new(&any_name(&mut random), &random.array());
+        assert_eq!(peer.expected, [0; 20]);
+        let mut request = challenge(0, 9, &random.array(), b"server");
+        assert_eq!(step_in(&mut peer, &request, &random.array(), ROOM).0, 0);
+        for id in 1..4 {
+            assert_outstanding(&mut peer, &request);
+            request = failure(id, 9, 691, 1, &random.array(), "");
+            assert_eq!(step_in(&mut peer, &request, &random.array(), ROOM).0, 1);
+            let (name, hash) = (any_name(&mut random), random.array());
+            let said = supply_with(&mut peer, &name, &hash, &random.array(), ROOM);
+            assert_eq!(said.0, 0);
+        }
+        assert_outstanding(&mut peer, &request);
+        let right = success(4, 9, &defined_string(&peer), "");
+        assert_eq!(step(&mut peer, &right), (0, short(2, 4, 3)));
+    }
+}
+
+#[test]
+fn only_a_response_sets_the_string() {
+    let kept = [7; 20];
+    let mut taken = 0;
+    for stage in STAGES {
+        let before = Peer {
+            expected: kept,
+            ..made(stage)
+        };
+        let mut packets = every_kind(&before, &kept);
+        packets.push(before.request[..usize::from(before.request_len)].to_vec()); // a repeat
+        for packet in packets {
+            let mut peer = before.clone();
+            let (number, _) = step(&mut peer, &packet);
+            let expected = if stage == Begin && number == 0 {
+                defined_string(&peer)
+            } else {
+                kept
+            };
+            assert_eq!(peer.expected, expected, "{stage:?} {packet:?}");
+            taken += usize::from(number < 10);
+        }
+        let mut peer = before.clone();
+        taken += usize::from(give_up(&mut peer).0 == 3);
+        assert_eq!(peer.expected, kept);
+    }
+    assert_eq!(taken, 11 + 3 + 1); // the stage table, the repeats, giving up
+}
+
+#[test]
+fn a_response_without_room_leaves_the_string() {
+    let kept = [7; 20];
+    let mut begin = Peer {
+        expected: kept,
+        ..fresh()
+    };
+    let mut waiting = Peer {
+        expected: kept,
+        ..made(Waiting)
+    };
+    for room in 0..67 {
+        assert_eq!(step_in(&mut begin, &first_challenge(), &RANDOM, room).0, 20);
+        assert_eq!(supply_in(&mut waiting, NAME, &[1; 16], room).0, 20);
+        assert_eq!((begin.expected, waiting.expected), (kept, kept));
+    }
+    assert_eq!(step_in(&mut begin, &first_challenge(), &RANDOM, 67).0, 0);
+    assert_eq!(supply_in(&mut waiting, NAME, &[1; 16], 67).0, 0);
+    assert_eq!(begin.expected, defined_string(&begin));
+    assert_eq!(waiting.expected, defined_string(&waiting));
+}
+
+#[test]
+fn the_right_string_of_a_state_handed_in_is_the_kept_one() {
+    let sent = made(ChallengeResponseSent);
+    let with_other_fields = Peer {
+        name: padded(b"A\\other"),
+        name_len: 7,
+        password_hash: [1; 16],
+        authenticator_challenge: [3; 16],
+        peer_challenge: [2; 16],
+        reply: [0; 315],
+        reply_len: 0,
+        ..sent.clone()
+    };
+    let strings = [[0; 20], [0xff; 20], *b"some other 20 octets"];
+    let with_other_strings = strings.map(|expected| Peer {
+        expected,
+        ..sent.clone()
+    });
+    for before in [&[with_other_fields][..], &with_other_strings].concat() {
+        let stage_after = |string: &[u8; 20]| {
+            let mut peer = before.clone();
+            let (number, _) = step(&mut peer, &success(8, 9, string, ""));
+            (number, peer.stage)
+        };
+        let ended = (3, Failed);
+        assert_eq!(stage_after(&before.expected), (0, SuccessResponseSent));
+        assert_eq!(stage_after(&defined_string(&before)), ended);
+        for bit in 0..160 {
+            assert_eq!(stage_after(&with_other_bit(&before.expected, bit)), ended);
+        }
+    }
 }

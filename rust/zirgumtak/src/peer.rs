@@ -37,7 +37,7 @@ pub struct Peer {
 
 impl Peer {
     /// The size of the state.
-    pub const OCTETS: usize = 1647;
+    pub const OCTETS: usize = 1667;
     /// The longest packet that is read.
     pub const MAX_PACKET: usize = 1020;
     /// The longest name.

@@ -26,17 +26,20 @@ encode-peer-spec =
     (λ c κs. search needs)
     (λ c κs. search needs)
     (λ c κs. search needs)
+    (λ c κs. search needs)
     (λ c.
-    let reply = c .before .before in
+    let expected = c .before .before in
+    let reply = expected .before .before .before .before .before .before .before in
     let request = reply .before .before .before .before .before .before .before in
     let name = request .before .before .before .before .before .before .before in
     let own = name .before .before .before .before .before .before .before in
     let authenticator = own .before .before .before .before .before .before .before in
     let hash = authenticator .before .before .before .before .before .before .before in
     let numbers = hash .before .before .before .before .before .before .before in
-    reply .append7 .kept .0 ∙ request .append6 .kept .0 ∙ name .append5 .kept .0 ∙ own .append4 .kept .0 ∙ authenticator .append3 .kept .0 ∙ hash .append2 .kept .0 ∙ numbers .append .kept .0)
+    expected .append8 .kept .0 ∙ reply .append7 .kept .0 ∙ request .append6 .kept .0 ∙ name .append5 .kept .0 ∙ own .append4 .kept .0 ∙ authenticator .append3 .kept .0 ∙ hash .append2 .kept .0 ∙ numbers .append .kept .0)
     (λ c.
-    let reply = c .before .before in
+    let expected = c .before .before in
+    let reply = expected .before .before .before .before .before .before .before in
     let request = reply .before .before .before .before .before .before .before in
     let name = request .before .before .before .before .before .before .before in
     let own = name .before .before .before .before .before .before .before in
@@ -51,6 +54,7 @@ encode-peer-spec =
     (more (own .append4 .ensures)
     (more (name .append5 .ensures)
     (more (request .append6 .ensures)
-    (more (reply .append7 .ensures) none)))))))
+    (more (reply .append7 .ensures)
+    (more (expected .append8 .ensures) none))))))))
     (made .before .if1 .left)
     (length-octets-of-peer _ (sizes (made .before .before .before)))))

@@ -7,7 +7,7 @@ use crate::call::Call;
 use crate::layout::{at, peer_of, server_of, PEER, SERVER};
 use crate::packets::{
     account, any_name, any_packet, bare_success, challenge, eap, failure, mutate, response, short,
-    success,
+    success, Exchange,
 };
 use crate::pair::{Pair, Run};
 use crate::random::Random;
@@ -127,8 +127,8 @@ fn any_peer(random: &mut Random) -> [u8; PEER] {
 fn packet_for_peer(random: &mut Random, state: &mut [u8; PEER]) -> Vec<u8> {
     let (id, chapid) = (random.below(4) as u8, random.below(4) as u8);
     match random.below(9) {
-        0 => success(id, chapid, &right_string(state), b""),
-        8 => bare_success(id, chapid, &right_string(state)),
+        0 => success(id, chapid, &some_string(random, state), b""),
+        8 => bare_success(id, chapid, &some_string(random, state)),
         1 => failure(id, chapid, 691, random.below(2) as u8, &random.array(), b""),
         2 => challenge(id, chapid, &random.array(), b"srv"),
         3 => eap(random.pick(&[3, 4]), state[at::PEER_REQUEST + 1]),
@@ -137,18 +137,22 @@ fn packet_for_peer(random: &mut Random, state: &mut [u8; PEER]) -> Vec<u8> {
     }
 }
 
-/// The string that the state's name, hash and challenges call for.
-fn right_string(state: &[u8; PEER]) -> [u8; 20] {
-    let peer = peer_of(state);
-    let length = usize::from(peer.name_len).min(256);
-    let user = mschap::user_of(&peer.name[..length]).expect("at most 256 octets");
-    let (hash, own, theirs) = (
-        &peer.password_hash,
-        &peer.peer_challenge,
-        &peer.authenticator_challenge,
-    );
-    let nt = mschap::nt_response(theirs, own, user, hash).expect("a short name");
-    mschap::authenticator(hash, &nt, own, theirs, user).expect("a short name")
+/// The string that the state keeps, which is often made the one that its other fields call for;
+/// or that one, kept or not; or the kept one but for an octet.
+fn some_string(random: &mut Random, state: &mut [u8; PEER]) -> [u8; 20] {
+    let computed = Exchange::of(&peer_of(state)).string();
+    if random.once_in(2) {
+        put(state, at::PEER_EXPECTED, &computed);
+    }
+    let mut string = peer_of(state).expected;
+    match random.below(4) {
+        0 => computed,
+        1 => {
+            string[random.below(20)] ^= 1 << random.below(8);
+            string
+        }
+        _ => string,
+    }
 }
 
 /// A request that the state keeps, or one that differs from it a little.

@@ -126,6 +126,15 @@ pub fn padded<const N: usize>(octets: &[u8]) -> [u8; N] {
     out
 }
 
+/// The authenticator string that document 01 defines, from the peer's other fields.
+pub fn defined_string(peer: &Peer) -> [u8; 20] {
+    let name = &peer.name[..usize::from(peer.name_len).min(256)];
+    let user = mschap::user_of(name).unwrap();
+    let (own, other) = (&peer.peer_challenge, &peer.authenticator_challenge);
+    let nt = mschap::nt_response(other, own, user, &peer.password_hash).unwrap();
+    mschap::authenticator(&peer.password_hash, &nt, own, other, user).unwrap()
+}
+
 // Calls, checked: a refusal changes no state and no octet and has n = 0; any other answer leaves
 // the buffer from n on as it was. They give the number and the octets written.
 
@@ -154,10 +163,20 @@ pub fn step(peer: &mut Peer, packet: &[u8]) -> Answer {
     step_in(peer, packet, &RANDOM, ROOM)
 }
 
-pub fn supply_in(peer: &mut Peer, name: &[u8], hash: &Octets16, room: usize) -> Answer {
+pub fn supply_with(
+    peer: &mut Peer,
+    name: &[u8],
+    hash: &Octets16,
+    random: &Octets16,
+    room: usize,
+) -> Answer {
     let (before, mut buffer) = (peer.clone(), vec![PATTERN; room]);
-    let answer = peer.supply(name, hash, &RANDOM, &mut buffer);
+    let answer = peer.supply(name, hash, random, &mut buffer);
     written(answer, *peer == before, &buffer)
+}
+
+pub fn supply_in(peer: &mut Peer, name: &[u8], hash: &Octets16, room: usize) -> Answer {
+    supply_with(peer, name, hash, &RANDOM, room)
 }
 
 pub fn give_up(peer: &mut Peer) -> Answer {

@@ -1,5 +1,5 @@
 use Rattle.peer.specs.Calls.{nextOf}
-use Rattle.peer.proofs.Replies.{next-told}
+use Rattle.peer.proofs.Replies.{next-told, kept-string}
 use borrow.Author.Needs.{needs}
 use Rattle.peer.proofs.Peer.next.Statement.{statement}
 use Rattle.peer.proofs.Peer.next.Tie as tie
@@ -13,7 +13,7 @@ next-spec =
     (λ c. search needs)
     (λ c. search needs)
     (λ c. search needs)
-    (λ c κs. search needs)
+    (λ c κs. search (needs, kept-string))
     (λ c. search needs)
     (λ c κs. search needs)
     (λ c. search needs)

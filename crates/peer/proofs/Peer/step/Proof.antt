@@ -1,12 +1,12 @@
 use Rattle.answer.proofs.Outcomes.{does-by}
-use Rattle.peer.specs.Calls.{stepOf}
+use Rattle.peer.specs.Calls.{stepBy, stepOf}
 use Rattle.packet.proofs.Readings.{read-within}
 use borrow.Author.Needs.{needs}
 use Rattle.peer.proofs.Peer.step.Statement.{statement}
 use Rattle.peer.proofs.Peer.step.Tie as tie
 
 pub step-spec : {M : Type 1} → statement M
-unfolding stepOf
+unfolding stepOf stepBy
 step-spec =
     tie.close
     (tie.spec

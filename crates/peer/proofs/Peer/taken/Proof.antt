@@ -3,13 +3,17 @@ use mathlib.Core.Path.{_≡_}
 use denote.Ref.{now}
 use lib.ListN.{length}
 use Rattle.answer.specs.Sizes.{maxPacket}
-use Rattle.peer.proofs.Replies.{taken-so, cut-short, answer-short}
+use Rattle.peer.specs.State.{replyRoom}
+use Rattle.peer.proofs.Replies.{taken-so, taken-keeps, cut-short, answer-short, response-short}
 use borrow.Author.Needs.{needs}
 use Rattle.peer.proofs.Peer.taken.Statement.{statement}
 use Rattle.peer.proofs.Peer.taken.Tie as tie
 
 sixteen : (s : tie.Start) → length (s .args .random) ≡ 16
 sixteen s = search needs
+
+stored : (s : tie.Start) → length (s .args .t1 .reply) ≡ replyRoom
+stored s = search needs
 
 within : (s : tie.Start) → length (now (s .args .q)) ≤ maxPacket
 within s = s .pre
@@ -24,10 +28,20 @@ taken-spec =
     (λ c κs. search needs)
     (λ c κs. search needs)
     (λ c κs. search needs)
-    (λ c κs. (search (within), search (needs, cut-short, answer-short, sixteen)))
-    (λ c. search needs)
-    (λ c.
+    (λ c κs. search (needs, cut-short, answer-short, response-short, sixteen))
+    (λ c κs.
     let x = c .before .before .before .before .before in
     let y = x .before .before .before .before .before in
+    let start = y .before .before .before .before .before .before .before .before .before .before .before .before .before in
+    let p = start .args .t1 in
+    let named = x .before .before .named .ensures in (
+      within start,
+      cut-short _ _ _ replyRoom _ _ _ (x .answer-to .ensures) (answer-short _ _ _ _ _ _ (p .replylen) (p .reply) (response-short _ _ _ _ _ _ (sixteen start) (named .few)) (y .first2 .ensures) (stored start)) (c .before .part .ensures),
+      taken-keeps _ _ _ _ _ _ _ _ _ _ _ _ _ _ _ _ (x .answer-to .ensures) (c .before .part .ensures) (c .string-after .ensures) (sixteen start) named,
+    ))
+    (λ c. search needs)
+    (λ c.
+    let x = c .before .before .before .before .before .before in
+    let y = x .before .before .before .before .before in
     let z = y .before .before .before .before in
-    taken-so _ _ _ _ _ _ _ _ _ _ _ _ _ _ (z .before .first .ensures) (z .turn-in .ensures) (x .before .before .named .ensures) (y .first2 .ensures) (x .answer-to .ensures) (c .before .part .ensures) (c .after .ensures)))
+    taken-so _ _ _ _ _ _ _ _ _ _ _ _ _ _ (z .before .first .ensures) (z .turn-in .ensures) (x .before .before .named .ensures) (y .first2 .ensures) (x .answer-to .ensures) (c .before .before .part .ensures) (c .after .ensures)))
