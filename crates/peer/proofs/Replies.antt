@@ -39,8 +39,8 @@ use Rattle.peer.specs.declared.Move.{Move}
 use Rattle.peer.specs.declared.Move.the-variants.{NotTaken, WrongIdentifier, Again, Respond, Confirm, Fail, Wait, Succeed, End}
 use Rattle.peer.specs.declared.Keys.{Keys}
 use Rattle.peer.specs.declared.Peer.{Peer}
-use Rattle.peer.specs.Inner.{Named, UserIn, stringIn, stringAfter, KeptBy}
-use Rattle.peer.specs.State.{replyRoom, ownName, lastRequest, lastReply, lastId, lastChapId, responseTo, stringTo, rightDigits, supplied}
+use Rattle.peer.specs.Inner.{Named, UserIn, stringAfter, KeptBy}
+use Rattle.peer.specs.State.{replyRoom, ownName, lastRequest, lastReply, lastId, lastChapId, responseTo, stringTo, stringIn, rightDigits, supplied}
 use Rattle.peer.specs.Calls.{digitsIn, says, writes, confirmation, answerOf, nextOf, leftBy, movedBy, turnIn, takenBy, responseBy, resumeOf}
 
 pub named-so : (s : List ℕ) (n : ℕ) (name : List ℕ) → name ≡ take n s → length s ≤ maxName → Named s n name
@@ -73,7 +73,7 @@ pub string-challenged : (hash a b w r : List ℕ) → a ≡ b → r ≡ stringIn
 string-challenged hash a b w r e h = cc
 
 -- by what the Response is made of
-string-made : (id chapid : ℕ) (authenticator own name hash : List ℕ) → length own ≡ 16 → stringIn hash authenticator (responseTo id chapid authenticator own name hash) ≡ stringTo authenticator own name hash
+pub string-made : (id chapid : ℕ) (authenticator own name hash : List ℕ) → length own ≡ 16 → stringIn hash authenticator (responseTo id chapid authenticator own name hash) ≡ stringTo authenticator own name hash
 unfolding stringIn stringTo responseTo responsePacket chapPacket header
 string-made id chapid authenticator own name hash h =
     let nt = ntResponse authenticator own (userOf name) hash in

@@ -2,15 +2,12 @@
 use Prim.Native.Nat.{ℕ, _≤_}
 use mathlib.Core.Path.{_≡_}
 use mathlib.Core.List.{List}
-use lib.ListN.{length, take, drop, replicate}
-use Rattle.octets.specs.Lists.{sized}
+use lib.ListN.{length, take, replicate}
 use Rattle.answer.specs.Sizes.{maxName}
 use Rattle.mschap.specs.Users.{userOf}
-use Rattle.mschap.specs.Responses.{authenticatorOf}
-use Rattle.packet.specs.Forms.{responseNameAt}
-use Rattle.packet.specs.Reader.{challengePlace, ntResponsePlace}
 use Rattle.peer.specs.declared.Move.{Move}
 use Rattle.peer.specs.declared.Move.the-variants.{NotTaken, WrongIdentifier, Again, Respond, Confirm, Fail, Wait, Succeed, End}
+use Rattle.peer.specs.State.{stringIn}
 
 -- n octets of an array of at most 256 are a name
 pub record Named (octets : List ℕ) (n : ℕ) (name : List ℕ) : Type 0 where
@@ -21,12 +18,7 @@ pub record UserIn (name user : List ℕ) : Type 0 where
   pub is : user ≡ userOf name
   pub few : length user ≤ maxName
 
--- the authenticator string that is to answer the Response w, computed from w's octets
-unfoldable pub stringIn : List ℕ → List ℕ → List ℕ → List ℕ
-stringIn hash authenticator w =
-    authenticatorOf hash (sized 24 (drop (ntResponsePlace .start) w)) (sized 16 (drop (challengePlace .start) w)) authenticator (userOf (drop responseNameAt w))
-
--- the same after the reply w of a move, where that is a Response
+-- what is computed after the reply w of a move: where that is a Response, the string that is to answer it
 unfoldable pub stringAfter : Move → List ℕ → List ℕ → List ℕ → List ℕ
 stringAfter NotTaken hash authenticator w = replicate 20 0
 stringAfter WrongIdentifier hash authenticator w = replicate 20 0

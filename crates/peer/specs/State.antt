@@ -1,11 +1,12 @@
 -- 01, "The logger's moves (peer)": the state, and what each kind of move makes of it.
 use Prim.Native.Nat.{ℕ, _+_}
 use mathlib.Core.List.{List}
-use lib.ListN.{length, getD, take, replicate}
+use lib.ListN.{length, getD, take, drop, replicate}
 use Rattle.octets.specs.Lists.{sized}
 use Rattle.mschap.specs.Users.{userOf}
 use Rattle.mschap.specs.Responses.{ntResponse, authenticatorOf, digitsOf}
 use Rattle.packet.specs.Forms.{responseNameAt, responsePacket}
+use Rattle.packet.specs.Reader.{challengePlace, ntResponsePlace}
 use Rattle.answer.specs.Sizes.{maxPacket, maxName}
 use Rattle.answer.specs.declared.ChapId.{ChapId}
 use Rattle.peer.specs.declared.Stage.{Stage}
@@ -46,6 +47,11 @@ responseTo id chapid authenticator own name hash =
 unfoldable pub stringTo : List ℕ → List ℕ → List ℕ → List ℕ → List ℕ
 stringTo authenticator own name hash =
     authenticatorOf hash (ntResponse authenticator own (userOf name) hash) own authenticator (userOf name)
+
+-- the same, computed from the octets of the Response w
+unfoldable pub stringIn : List ℕ → List ℕ → List ℕ → List ℕ
+stringIn hash authenticator w =
+    authenticatorOf hash (sized 24 (drop (ntResponsePlace .start) w)) (sized 16 (drop (challengePlace .start) w)) authenticator (userOf (drop responseNameAt w))
 
 -- the outstanding Response
 unfoldable pub outstanding : Peer → List ℕ

@@ -1,16 +1,15 @@
 -- Over any calls on from a made peer: what the state keeps.
 use Prim.Native.Nat.{ℕ}
 use mathlib.Core.Path.{_≡_, refl, sym, ap, subst, _∙_}
-use mathlib.Core.List.{List, [], _∷_, _++_}
+use mathlib.Core.List.{List, [], _∷_}
 use mathlib.Core.Bool.{true, _||_}
 use native.Mathlib.Omega.{arith}
-use lib.ListN.{length, getD, take, drop}
+use lib.ListN.{length, getD, take}
 use lib.Dec.{ltb}
 use Rattle.octets.specs.Lists.{sized}
 use Rattle.octets.specs.Octets.{numberAt}
 use Rattle.octets.specs.declared.Order.the-variants.{Big}
 use Rattle.octets.proofs.Exits.{arms, clash}
-use Rattle.octets.proofs.Parts.{part-from, drop-next}
 use Rattle.octets.proofs.Lists.{take-sized}
 use Rattle.answer.specs.Outcome.{gives, Outcome, outcome, fitting}
 use Rattle.answer.specs.Runs as runs
@@ -19,19 +18,17 @@ use Rattle.packet.specs.declared.End.the-variants as end
 use Rattle.packet.specs.declared.Packet.{Packet}
 use Rattle.packet.specs.Kinds.{isRequest}
 use Rattle.packet.specs.Reader.{readPacket, challengeIn}
-use Rattle.packet.specs.Forms.{eightZeros, header, chapPacket, responsePacket, successResponse, failureResponse}
-use Rattle.mschap.specs.Users.{userOf}
-use Rattle.mschap.specs.Responses.{ntResponse, authenticatorOf, digitsOf}
-use Rattle.mschap.proofs.Responses.{length-nt-response}
+use Rattle.packet.specs.Forms.{header, chapPacket, responsePacket, successResponse, failureResponse}
 use Rattle.peer.specs.declared.Stage.{Stage}
 use Rattle.peer.specs.declared.Stage.the-variants.{Begin, ChallengeResponseSent, SuccessResponseSent, FailureResponseSent, Waiting, Success, Failed}
 use Rattle.peer.specs.declared.Peer.{Peer}
-use Rattle.peer.specs.State.{ownName, lastRequest, lastReply, lastId, lastChapId, responseTo, stringTo, outstanding, computedString, rightDigits, initial, staged, answered, responded, awaiting, supplied as suppliedState}
+use Rattle.peer.specs.State.{ownName, lastRequest, lastReply, lastId, lastChapId, responseTo, stringTo, stringIn, outstanding, computedString, initial, staged, answered, responded, awaiting, supplied as suppliedState}
 use Rattle.peer.specs.Moves.{sent, waiting}
 use Rattle.peer.specs.Calls.{newOf, responseIn, stepOf, responseBy}
+use Rattle.peer.proofs.Replies.{string-made}
 use Rattle.peerlaws.specs.Exact.{Repeats}
 use Rattle.peerlaws.specs.Runs.{Call, step, supply, giveUp, callOf, after, IsPeer, IsCall, AreCalls, Reached}
-use Rattle.peerlaws.specs.Promises.{Request, RepeatRuleReached, rightFor, StateConsistent}
+use Rattle.peerlaws.specs.Promises.{Request, RepeatRuleReached, StateConsistent}
 use Rattle.peerlaws.proofs.Forward.{id-here, chap-here, cut-most}
 use Rattle.peerlaws.proofs.Views.{Moved, responds, accepts, fails, waits, succeeds, ends, Stepped, stepped, Supplied, supplied, GaveUp, gave-up}
 use Rattle.peerlaws.proofs.Views as view
@@ -180,26 +177,13 @@ again-sends : (p : Peer) (room : ℕ) → fitting room p (outcome 0 (lastReply p
 unfolding fitting
 again-sends p room = arms (λ (o : Outcome Peer). o .number ≡ 0 → o .octets ≡ lastReply p) (ltb room (length (lastReply p))) (λ z. absurd (omega arith)) (λ z. refl)
 
--- the right string by the octets of the outstanding Response
-string-of : (id chapid : ℕ) (authenticator own name hash : List ℕ) → length own ≡ 16 → digitsOf (stringTo authenticator own name hash) ≡ rightFor hash authenticator (responseTo id chapid authenticator own name hash)
-unfolding stringTo responseTo responsePacket chapPacket header
-string-of id chapid authenticator own name hash h =
-    let nt = ntResponse authenticator own (userOf name) hash in
-    let w = responsePacket id chapid own nt name in
-    let k = length-nt-response authenticator own (userOf name) hash in
-    let d10 : drop 10 w ≡ own ++ (eightZeros ++ (nt ++ (0 ∷ name))) = refl in
-    let d26 : drop 26 w ≡ eightZeros ++ (nt ++ (0 ∷ name)) = drop-next w own _ 10 16 26 d10 h refl in
-    let d34 : drop 34 w ≡ nt ++ (0 ∷ name) = drop-next w eightZeros _ 26 8 34 d26 refl refl in
-    let d58 : drop 58 w ≡ (0 ∷ []) ++ name = drop-next w nt _ 34 24 58 d34 k refl in
-    let d59 : drop 59 w ≡ name = drop-next w (0 ∷ []) name 58 1 59 d58 refl refl in
-    (λ j. digitsOf (authenticatorOf hash (sym (part-from w nt _ 34 24 d34 k) j) (sym (part-from w own _ 10 16 d10 h) j) authenticator (userOf (sym d59 j))))
-
-right-string : (p : Peer) → Invariant p → p .stage ≡ ChallengeResponseSent → rightDigits p ≡ rightFor (p .credentials .hash) (p .challenges .authenticator) (lastReply p)
-unfolding rightDigits computedString outstanding
-right-string p h f =
-    ap digitsOf (kept-string p h f)
-    ∙ string-of (lastId p) (p .challenges .chapid .0) (p .challenges .authenticator) (p .challenges .own) (ownName p) (p .credentials .hash) (h .is .challenges .own)
-    ∙ ap (rightFor (p .credentials .hash) (p .challenges .authenticator)) (sym (kept-response p h f .0))
+-- the same by the octets of the outstanding Response
+kept-by-octets : (p : Peer) → Invariant p → p .stage ≡ ChallengeResponseSent → p .challenges .expected ≡ stringIn (p .credentials .hash) (p .challenges .authenticator) (lastReply p)
+unfolding computedString outstanding
+kept-by-octets p h f =
+    kept-string p h f
+    ∙ sym (string-made (lastId p) (p .challenges .chapid .0) (p .challenges .authenticator) (p .challenges .own) (ownName p) (p .credentials .hash) (h .is .challenges .own))
+    ∙ ap (stringIn (p .credentials .hash) (p .challenges .authenticator)) (sym (kept-response p h f .0))
 
 again-size : (p : Peer) (s random : List ℕ) (room : ℕ) → Repeats p s → stepOf p s random room .number ≡ 0 → stepOf p s random room .octets ≡ lastReply p
 again-size p s random room t z = let e = repeat-again p s random room t in ap (λ (o : Outcome Peer). o .octets) e ∙ again-sends p room (sym (ap (λ (o : Outcome Peer). o .number) e) ∙ z)
@@ -209,7 +193,7 @@ state-consistent p r =
     let h = reached p r in
     record {
       response = λ f. kept-response p h f .0;
-      string = right-string p h;
+      string = kept-by-octets p h;
       size = λ s random room t z. ap length (again-size p s random room t z) ∙ kept-size (p .stage) p (t .stage) (h .keeps);
       request = λ f. kept-request (p .stage) p f (h .keeps);
     }

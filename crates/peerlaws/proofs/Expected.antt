@@ -2,10 +2,10 @@
 use Prim.Native.Nat.{ℕ}
 use mathlib.Core.Path.{_≡_, refl, sym, ap, _∙_}
 use mathlib.Core.List.{List, [], _∷_}
-use mathlib.Core.Bool.{Bool, true, not}
+use mathlib.Core.Bool.{true, not}
 use native.Mathlib.Omega.{arith}
 use lib.ListN.{take, replicate}
-use lib.Dec.{eqb, ltb}
+use lib.Dec.{eqb}
 use Rattle.octets.specs.Choice.{pick}
 use Rattle.octets.specs.Octets.{octetIs, same}
 use Rattle.octets.proofs.Exits.{arms, picked, clash}
@@ -26,7 +26,7 @@ use Rattle.peer.specs.declared.Peer.{Peer}
 use Rattle.peer.specs.State.{ownName, lastRequest, stringTo, computedString, rightDigits, initial, staged, answered, responded, awaiting, supplied as suppliedState}
 use Rattle.peer.specs.Moves.{takes, moveOf, sent, repeats, misnumbered, turnOf}
 use Rattle.peer.specs.Calls.{newOf, answerOf, movedBy, turnIn, takenBy, readBy, stepBy, stepOf}
-use Rattle.peerlaws.specs.Runs.{Call, step, supply, giveUp, callOf, IsCall, AreCalls}
+use Rattle.peerlaws.specs.Runs.{Call, step, supply, giveUp, callOf, AreCalls}
 use Rattle.peerlaws.specs.Expected.{ResponseMade, ExpectedString, computing, outcomes, AnswersStay}
 use Rattle.peerlaws.proofs.Views.{responds, accepts, fails, waits, succeeds, ends, Stepped, stepped, Supplied, supplied, GaveUp, gave-up}
 use Rattle.peerlaws.proofs.Views as view

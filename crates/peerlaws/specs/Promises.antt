@@ -4,7 +4,7 @@ use mathlib.Core.Path.{_≡_}
 use mathlib.Core.List.{List, [], _∷_, _++_}
 use mathlib.Core.Bool.{true, false, _||_}
 use mathlib.Core.Logic.{_⊎_}
-use lib.ListN.{length, getD, take, drop, set}
+use lib.ListN.{length, getD, take, set}
 use lib.Dec.{eqb}
 use Rattle.octets.specs.Choice.{pick}
 use Rattle.octets.specs.Lists.{part, over}
@@ -19,11 +19,11 @@ use Rattle.packet.specs.Kinds.{isRequest}
 use Rattle.packet.specs.Reader.{at, challengePlace, ntResponsePlace, readPacket, reading, place, nowhere}
 use Rattle.packet.specs.Forms.{responseNameAt, Tail, successMessage, chapPacket, successResponse}
 use Rattle.mschap.specs.Users.{userOf}
-use Rattle.mschap.specs.Responses.{ntResponse, authenticatorOf, digitsOf}
+use Rattle.mschap.specs.Responses.{ntResponse, digitsOf}
 use Rattle.peer.specs.declared.Stage.{Stage}
 use Rattle.peer.specs.declared.Stage.the-variants.{Begin, ChallengeResponseSent, SuccessResponseSent, FailureResponseSent, Waiting, Success, Failed}
 use Rattle.peer.specs.declared.Peer.{Peer}
-use Rattle.peer.specs.State.{replyRoom, ownName, lastRequest, lastReply, lastId, responseTo, outstanding, computedString, rightDigits, staged, answered, supplied}
+use Rattle.peer.specs.State.{replyRoom, ownName, lastRequest, lastReply, lastId, responseTo, stringIn, outstanding, computedString, rightDigits, staged, answered, supplied}
 use Rattle.peer.specs.Moves.{takes, moveOf, sent, waiting}
 use Rattle.peer.specs.Calls.{newOf, renewedIn, digitsIn, movedOf, stepOf, supplyOf}
 use Rattle.peerlaws.specs.Exact.{Repeats, responding, supplying}
@@ -192,15 +192,11 @@ AnyChapIdTaken =
     stepOf p s random room ≡ movedOf (moveOf (k .kind)) p k (take (k .length) s) random room
 
 -- ---- 7. Over any calls on from a made peer
--- the right string of the Response w
-abbrev pub rightFor : List ℕ → List ℕ → List ℕ → List ℕ
-rightFor hash authenticator w = digitsOf (authenticatorOf hash (at w ntResponsePlace) (at w challengePlace) authenticator (userOf (drop responseNameAt w)))
-
 pub record Consistent (p : Peer) : Type 0 where
   -- while a Response is outstanding, the stored reply is the Response that the state's name, hash and challenges give
   pub response : p .stage ≡ ChallengeResponseSent → lastReply p ≡ outstanding p
   -- "The peer's right string is the one so computed from its own hash and its outstanding Response."
-  pub string : p .stage ≡ ChallengeResponseSent → rightDigits p ≡ rightFor (p .credentials .hash) (p .challenges .authenticator) (lastReply p)
+  pub string : p .stage ≡ ChallengeResponseSent → p .challenges .expected ≡ stringIn (p .credentials .hash) (p .challenges .authenticator) (lastReply p)
   -- n of a repeat is the stored packet's L
   pub size : (s random : List ℕ) (room : ℕ) → Repeats p s → stepOf p s random room .number ≡ 0 → length (stepOf p s random room .octets) ≡ numberAt Big (lastReply p) 2
   -- what is kept as the request is one
