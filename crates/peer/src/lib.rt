@@ -254,7 +254,7 @@ fn nt_response(keys: Keys, user: &[u8]) -> [u8; 24]
 }
 
 // The authenticator string that is to answer the Response w, of whose octets it is made.
-fn string_to(hash: [u8; 16], authenticator: [u8; 16], w: &[u8]) -> [u8; 20]
+fn string_in(hash: [u8; 16], authenticator: [u8; 16], w: &[u8]) -> [u8; 20]
     requires { ⌜ length (now w) ≤ replyRoom ⌝ }
     ensures { λ r. ⌜ r ≡ stringIn hash authenticator (now (w .entry)) ⌝ }
 {
@@ -275,7 +275,7 @@ fn string_after(m: Move, hash: [u8; 16], k: Packet, q: &[u8], w: &[u8]) -> [u8; 
         Move::NotTaken => [0u8; 20],
         Move::WrongIdentifier => [0u8; 20],
         Move::Again => [0u8; 20],
-        Move::Respond => string_to(hash, packet::sixteen_at(q, k.challenge.start), w),
+        Move::Respond => string_in(hash, packet::sixteen_at(q, k.challenge.start), w),
         Move::Confirm => [0u8; 20],
         Move::Fail => [0u8; 20],
         Move::Wait => [0u8; 20],
@@ -692,7 +692,7 @@ impl Peer {
         let w = send_response(id, chapid, keys, name, reply);
         let answer = w.answer;
         let sent = octets::part(reply, 0, w.n);
-        let string = string_to(hash, authenticator, sent);
+        let string = string_in(hash, authenticator, sent);
         PeerStep {
             answer,
             n: w.n,

@@ -23,7 +23,7 @@ resume-spec =
     let sent = c .before .before .before .before .before .send-response .ensures in (
       search needs,
       cut-short _ _ _ replyRoom _ _ _ sent (search (needs, response-short, sixteen)) (c .before .part .ensures),
-      resume-keeps _ _ _ _ _ _ _ _ _ _ _ _ sent (c .before .part .ensures) (c .string-to .ensures) (search (sixteen)),
+      resume-keeps _ _ _ _ _ _ _ _ _ _ _ _ sent (c .before .part .ensures) (c .string-in .ensures) (search (sixteen)),
     ))
     (λ c. search needs)
     (λ c. search (needs, resume-so)))

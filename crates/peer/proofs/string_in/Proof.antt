@@ -1,10 +1,10 @@
 use Rattle.peer.proofs.Replies.{rest-short, string-by}
 use borrow.Author.Needs.{needs}
-use Rattle.peer.proofs.string_to.Statement.{statement}
-use Rattle.peer.proofs.string_to.Tie as tie
+use Rattle.peer.proofs.string_in.Statement.{statement}
+use Rattle.peer.proofs.string_in.Tie as tie
 
-pub string-to-spec : {M : Type 1} → statement M
-string-to-spec =
+pub string-in-spec : {M : Type 1} → statement M
+string-in-spec =
     tie.close
     (tie.spec
     (λ c κs. search needs)
