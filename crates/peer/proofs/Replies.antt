@@ -1,5 +1,5 @@
 -- Stored names, the answers and replies of the moves, and the states that they leave.
-use Prim.Native.Nat.{ℕ, _+_, _≤_}
+use Prim.Native.Nat.{ℕ, _+_, _≤_, _<_}
 use mathlib.Core.Path.{_≡_, refl, sym, ap, _∙_}
 use mathlib.Core.List.{List, [], _∷_, _++_}
 use mathlib.Core.Bool.{Bool, true, false}
@@ -164,21 +164,26 @@ cut-short a k n m w before after d h e =
     rw e (omega (arith, length-take n after))
 
 -- ---- the answer a went out, or 20
-sent-whole : (a : Outcome (Unit {0})) (k n : ℕ) (w before after : List ℕ) → a .number ≡ 0 → Does (fitting (length before) tt a) k n tt before after → w ≡ take n after → k ≡ 0 → w ≡ a .octets
-sent-whole a k n w before after z d c e =
-    below (length before) (length (a .octets))
-    (λ h.
-    let d′ : Does (refused 20 tt) k n tt before after = rw (fitting-not (length before) tt a h) at d in
-    let y : _≡_ {A = ℕ} 0 20 = sym e ∙ d′ .answered in
-    absurd (omega arith))
-    (λ h.
+sent-whole : (a : Outcome (Unit {0})) (k n : ℕ) (w before after : List ℕ) → length (a .octets) ≤ length before → Does (fitting (length before) tt a) k n tt before after → w ≡ take n after → w ≡ a .octets
+sent-whole a k n w before after h d c =
     let d′ : Does a k n tt before after = rw (fitting-so (length before) tt a h) at d in
-    c ∙ rw (d′ .count, d′ .written) (take-append-seam (a .octets) (drop (length (a .octets)) before)))
+    c ∙ rw (d′ .count, d′ .written) (take-append-seam (a .octets) (drop (length (a .octets)) before))
 
 -- the string that was computed from the reply is the one that the fields give
 pub resume-keeps : (a n : ℕ) (before after : List ℕ) (id chapid : ℕ) (authenticator own name hash w string : List ℕ) → Does (sends (length before) (responseTo id chapid authenticator own name hash)) a n tt before after → w ≡ take n after → string ≡ stringIn hash authenticator w → length own ≡ 16 → KeptBy a Respond string (stringTo authenticator own name hash)
-resume-keeps a n before after id chapid authenticator own name hash w string d c s o =
-    record { kept = λ z e. s ∙ ap (stringIn hash authenticator) (sent-whole _ a n w before after refl d c z) ∙ string-made id chapid authenticator own name hash o }
+resume-keeps a n before after id chapid authenticator own name hash w string d c s o = record { kept = λ z e. below (length before) (length r) (unsent z) whole }
+  where
+    r : List ℕ
+    r = responseTo id chapid authenticator own name hash
+
+    unsent : a ≡ 0 → length before < length r → string ≡ stringTo authenticator own name hash
+    unsent z h =
+        let d′ : Does (refused 20 tt) a n tt before after = rw (fitting-not (length before) tt (writes r) h) at d in
+        let y : _≡_ {A = ℕ} 0 20 = sym z ∙ d′ .answered in
+        absurd (omega arith)
+
+    whole : length r ≤ length before → string ≡ stringTo authenticator own name hash
+    whole h = s ∙ ap (stringIn hash authenticator) (sent-whole (writes r) a n w before after h d c) ∙ string-made id chapid authenticator own name hash o
 
 pub taken-keeps : (a n : ℕ) (before after : List ℕ) (m : Move) (k : Packet) (q authenticator own name hash right last w string : List ℕ) (p : Peer) → Does (fitting (length before) tt (answerOf m k q (responseTo (k .id .0) (k .chapid .0) authenticator own name hash) right last)) a n tt before after → w ≡ take n after → string ≡ stringAfter m hash authenticator w → length own ≡ 16 → Named (p .credentials .name) (p .credentials .namelen) name → KeptBy a m string (stringTo authenticator own (ownName p) hash)
 unfolding answerOf stringAfter ownName
@@ -209,7 +214,7 @@ does-left f s r a k n w before after z d c e =
     (record { answered = d′ .answered; count = d′ .count; left = e ∙ ap (λ (x : ℕ). f x w) (d′ .answered) ∙ z w; written = d′ .written }))
     (λ h.
     let d′ : Does a k n tt before after = rw (fitting-so (length before) tt a h) at d in
-    let t : w ≡ a .octets = c ∙ rw (d′ .count, d′ .written) (take-append-seam (a .octets) (drop (length (a .octets)) before)) in
+    let t = sent-whole a k n w before after h d c in
     rw (fitting-so (length before) s (outcome (a .number) (a .octets) (f (a .number) (a .octets))) h)
     (record { answered = d′ .answered; count = d′ .count; left = e ∙ (λ j. f (d′ .answered j) (t j)); written = d′ .written }))
 
