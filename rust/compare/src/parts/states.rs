@@ -138,7 +138,7 @@ fn packet_for_peer(random: &mut Random, state: &mut [u8; PEER]) -> Vec<u8> {
 }
 
 /// The string that the state keeps, which is often made the one that its other fields call for;
-/// or that one, kept or not; or the kept one but for an octet.
+/// or that one, kept or not; or the kept one but for a bit.
 fn some_string(random: &mut Random, state: &mut [u8; PEER]) -> [u8; 20] {
     let computed = Exchange::of(&peer_of(state)).string();
     if random.once_in(2) {
