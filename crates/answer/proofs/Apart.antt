@@ -46,7 +46,7 @@ pub numbers-apart : NumbersApart
 numbers-apart a b e = sym (back a) ∙ ap (λ (n : ℕ). getD answers n Written) e ∙ back b
 
 -- ---- "What a call answers": 0 to 3 and 10 to 23
-refusals-listed : (why : Refusal) → IsRefusal (refusalOf why)
+pub refusals-listed : (why : Refusal) → IsRefusal (refusalOf why)
 refusals-listed Short = (omega arith, omega arith)
 refusals-listed BadLength = (omega arith, omega arith)
 refusals-listed TooLong = (omega arith, omega arith)

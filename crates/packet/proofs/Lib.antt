@@ -12,3 +12,4 @@ pub mod Shapes
 pub mod Renumbered
 pub mod Sizes
 pub mod Steps
+pub mod Texts

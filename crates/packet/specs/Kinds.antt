@@ -1,11 +1,11 @@
 -- Kinds of packets, told apart by tests.
 use Prim.Native.Nat.{ℕ}
-use mathlib.Core.Bool.{Bool, _||_}
+use mathlib.Core.Bool.{Bool, true, false, _||_}
 use lib.Dec.{eqb}
 use Rattle.packet.specs.declared.Kind.{Kind}
 use Rattle.packet.specs.declared.Kind.the-variants.{Challenge, Response, SuccessRequest, FailureRequest, RetryRequest, SuccessResponse, FailureResponse, EapSuccess, EapFailure}
 
--- any numbers that differ
+-- numbers that differ; at the boundary they are the kinds' own
 abbrev pub kindNumber : Kind → ℕ
 kindNumber Challenge = 0
 kindNumber Response = 1
@@ -23,3 +23,15 @@ isKind a b = eqb (kindNumber a) (kindNumber b)
 -- a Request has Code 1
 abbrev pub isRequest : Kind → Bool
 isRequest k = isKind Challenge k || (isKind SuccessRequest k || (isKind FailureRequest k || isKind RetryRequest k))
+
+-- a message that can have a text after `M=`
+abbrev pub hasText : Kind → Bool
+hasText Challenge = false
+hasText Response = false
+hasText SuccessRequest = true
+hasText FailureRequest = true
+hasText RetryRequest = true
+hasText SuccessResponse = false
+hasText FailureResponse = false
+hasText EapSuccess = false
+hasText EapFailure = false

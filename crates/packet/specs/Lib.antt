@@ -5,3 +5,4 @@ pub mod Kinds
 pub mod Learned
 pub mod Promises
 pub mod Reader
+pub mod Texts

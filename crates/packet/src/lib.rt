@@ -10,9 +10,10 @@ ghost use Rattle.octets.specs.declared.Order.the-variants as order;
 ghost use Rattle.answer.specs.Outcome.{gives};
 ghost use Rattle.answer.specs.Sizes.{maxPacket};
 ghost use Rattle.packet.specs.Frame.{frameOf, toldFrame};
-ghost use Rattle.packet.specs.Kinds.{kindNumber, isKind};
+ghost use Rattle.packet.specs.Kinds.{kindNumber, isKind, hasText};
 ghost use Rattle.packet.specs.Inner.{Counted, failureRead, failureEnd, failureRest, failureMiddle, atPeer, atServer, atEnd};
 ghost use Rattle.packet.specs.Reader.{place, reading, toldReading, challengeFormed, readChallenge, responseFormed, readResponse, successFormed, textAt, readSuccess, failureOf, readFailure, readBare, readCut, readPacket};
+ghost use Rattle.packet.specs.Texts.{textIn, textTold, textPart};
 use answer::ChapId;
 use answer::Identifier;
 use answer::Refusal;
@@ -34,7 +35,8 @@ const SUCCESS_TAIL_AT: usize = 51;
 
 const MAX_RESPONSE: usize = RESPONSE_NAME_AT + answer::MAX_NAME;
 
-const NOWHERE: Place = Place { start: 0, len: 0 };
+// A part that is not there.
+pub const NOWHERE: Place = Place { start: 0, len: 0 };
 
 const CHALLENGE: Place = Place {
     start: CHALLENGE_AT,
@@ -67,7 +69,8 @@ pub enum Kind {
     EapFailure,
 }
 
-fn kind_number(kind: Kind) -> u8
+// The number of a kind.
+pub fn kind_number(kind: Kind) -> u8
     ensures { λ r. ⌜ r ≡ kindNumber kind ⌝ }
 {
     match kind {
@@ -514,6 +517,52 @@ pub fn read(end: End, p: &[u8]) -> Reading
         Framed::Refused(why) => Reading::Refused(why),
         Framed::Of(l) => read_cut(end, octets::part(p, 0, l)),
     }
+}
+
+fn has_text(kind: Kind) -> bool
+    ensures { λ r. ⌜ r ≡ hasText kind ⌝ }
+{
+    match kind {
+        Kind::Challenge => false,
+        Kind::Response => false,
+        Kind::SuccessRequest => true,
+        Kind::FailureRequest => true,
+        Kind::RetryRequest => true,
+        Kind::SuccessResponse => false,
+        Kind::FailureResponse => false,
+        Kind::EapSuccess => false,
+        Kind::EapFailure => false,
+    }
+}
+
+// Where the text after M= lies in a packet: in a Success or Failure Request from its start to L; in others nowhere, at 0.
+pub fn text_in(k: Packet) -> Place
+    ensures { λ r. ⌜ r ≡ textIn k ⌝ }
+{
+    let kind = k.kind;
+    if has_text(kind) {
+        return k.tail;
+    }
+    NOWHERE
+}
+
+// The same of a reading; at 0 where it is refused.
+pub fn text_told(x: Reading) -> Place
+    ensures { λ r. ⌜ r ≡ textTold (toldReading x) ⌝ }
+{
+    match x {
+        Reading::Refused(_) => NOWHERE,
+        Reading::Read(k) => text_in(k),
+    }
+}
+
+// The text after M=, the part of the packet that goes on to L; no octets where a packet has none or cannot be read.
+pub fn text(end: End, p: &[u8]) -> &[u8]
+    ensures { λ r. ⌜ now r ≡ textPart end (now (p .entry)) ⌝ }
+{
+    let x = read(end, p);
+    let place = text_told(x);
+    octets::part(p, place.start, place.len)
 }
 
 // Sixteen octets from a place on, and zeros where there are fewer: a challenge.
