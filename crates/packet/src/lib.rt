@@ -31,9 +31,10 @@ pub const RESPONSE_NAME_AT: usize = 59;
 pub const SUCCESS_TEXT_AT: usize = 54;
 
 // Where a Success message's tail starts, or L where it has none.
-const SUCCESS_TAIL_AT: usize = 51;
+pub const SUCCESS_TAIL_AT: usize = 51;
 
-const MAX_RESPONSE: usize = RESPONSE_NAME_AT + answer::MAX_NAME;
+// The most octets of a Response.
+pub const MAX_RESPONSE: usize = RESPONSE_NAME_AT + answer::MAX_NAME;
 
 // A part that is not there.
 pub const NOWHERE: Place = Place { start: 0, len: 0 };
@@ -285,7 +286,7 @@ fn read_success(q: &[u8]) -> Reading
 }
 
 // Whether n is 1 to 10.
-fn few_digits(n: usize) -> bool
+pub fn few_digits(n: usize) -> bool
     ensures { λ r. ⌜ r ≡ (leb 1 n && leb n 10) ⌝ }
 {
     if n < 1 {
@@ -295,7 +296,7 @@ fn few_digits(n: usize) -> bool
 }
 
 // Whether the digit 0 or 1 stands at i.
-fn is_bit(q: &[u8], i: usize) -> bool
+pub fn is_bit(q: &[u8], i: usize) -> bool
     ensures { λ r. ⌜ r ≡ (octetIs (now (q .entry)) i 48 || octetIs (now (q .entry)) i 49) ⌝ }
 {
     if octets::octet_is(q, i, 48) {
@@ -331,7 +332,7 @@ fn decimal_at(q: &[u8], i: usize, n: usize) -> u64
 }
 
 // Whether the n digits at i are 1 to 10, and their number is 3.
-fn is_version(q: &[u8], i: usize, n: usize) -> bool
+pub fn is_version(q: &[u8], i: usize, n: usize) -> bool
     ensures { λ r. ⌜ r ≡ ((leb 1 n && leb n 10) && eqb (number (part (now (q .entry)) i n)) 3) ⌝ }
 {
     if !few_digits(n) {
