@@ -1,10 +1,12 @@
-// What C and Rust link, declared in include/zirgumtak.h. Each slice is a pointer and a length there. The functions stand in crates/calls.
+// What C and Rust link, declared in include/zirgumtak.h. Each slice is a pointer and a length there. The functions stand in crates/calls and
+// crates/wire.
 ghost use mathlib.Core.Path.{_≡_};
 ghost use mathlib.Core.List.{[]};
 ghost use Rattle.accounts.specs.Accounts.{checkNumber};
 ghost use Rattle.calls.specs.Done.{wordOf, done, made};
 ghost use Rattle.calls.specs.Ends.{peerNewAt, peerStepAt, peerSupplyAt, peerGiveUpAt, serverNewAt, serverStartAt, serverPacketAt, serverResendAt};
-ghost use Rattle.calls.specs.Stateless.{version, readAt, accountsAppendAt, md4At, sha1At, passwordHashAt, desAt, ntResponseAt, authenticatorAt};
+ghost use Rattle.calls.specs.Stateless.{version, accountsAppendAt, md4At, sha1At, passwordHashAt, desAt, ntResponseAt, authenticatorAt};
+ghost use Rattle.wire.specs.Calls.{readAt, challengeAt, responseAt, successRequestAt, failureRequestAt, successResponseAt, failureResponseAt, eapSuccessAt, eapFailureAt};
 
 #[no_mangle]
 pub extern "C" fn zt_peer_new(state: &mut [u8], name: &[u8], hash: &[u8]) -> u64
@@ -94,10 +96,93 @@ pub extern "C" fn zt_version() -> u64
 }
 
 #[no_mangle]
-pub extern "C" fn zt_read(end: u8, packet: &[u8]) -> u64
-    ensures { λ r. ⌜ r ≡ readAt end (now (packet .entry)) ⌝ }
+pub extern "C" fn zt_read(end: u8, packet: &[u8], reading: &mut [u8]) -> u64
+    ensures { λ r. ⌜ made r (now (reading .exit)) ≡ readAt end (now (packet .entry)) (now (reading .entry)) ⌝ }
 {
-    calls::read(end, packet)
+    wire::read(end, packet, reading)
+}
+
+#[no_mangle]
+pub extern "C" fn zt_write_challenge(
+    identifier: u8,
+    chapid: u8,
+    challenge: &[u8],
+    name: &[u8],
+    out: &mut [u8],
+) -> u64
+    ensures { λ r. ⌜ made r (now (out .exit)) ≡ challengeAt identifier chapid (now (challenge .entry)) (now (name .entry)) (now (out .entry)) ⌝ }
+{
+    wire::write_challenge(identifier, chapid, challenge, name, out)
+}
+
+#[no_mangle]
+pub extern "C" fn zt_write_response(
+    identifier: u8,
+    chapid: u8,
+    peer: &[u8],
+    ntresponse: &[u8],
+    name: &[u8],
+    out: &mut [u8],
+) -> u64
+    ensures { λ r. ⌜ made r (now (out .exit)) ≡ responseAt identifier chapid (now (peer .entry)) (now (ntresponse .entry)) (now (name .entry)) (now (out .entry)) ⌝ }
+{
+    wire::write_response(identifier, chapid, peer, ntresponse, name, out)
+}
+
+#[no_mangle]
+pub extern "C" fn zt_write_success_request(
+    identifier: u8,
+    chapid: u8,
+    string: &[u8],
+    text: &[u8],
+    out: &mut [u8],
+) -> u64
+    ensures { λ r. ⌜ made r (now (out .exit)) ≡ successRequestAt identifier chapid (now (string .entry)) (now (text .entry)) (now (out .entry)) ⌝ }
+{
+    wire::write_success_request(identifier, chapid, string, text, out)
+}
+
+#[no_mangle]
+pub extern "C" fn zt_write_failure_request(
+    identifier: u8,
+    chapid: u8,
+    code: u64,
+    retry: u64,
+    challenge: &[u8],
+    text: &[u8],
+    out: &mut [u8],
+) -> u64
+    ensures { λ r. ⌜ made r (now (out .exit)) ≡ failureRequestAt identifier chapid code retry (now (challenge .entry)) (now (text .entry)) (now (out .entry)) ⌝ }
+{
+    wire::write_failure_request(identifier, chapid, code, retry, challenge, text, out)
+}
+
+#[no_mangle]
+pub extern "C" fn zt_write_success_response(identifier: u8, out: &mut [u8]) -> u64
+    ensures { λ r. ⌜ made r (now (out .exit)) ≡ successResponseAt identifier (now (out .entry)) ⌝ }
+{
+    wire::write_success_response(identifier, out)
+}
+
+#[no_mangle]
+pub extern "C" fn zt_write_failure_response(identifier: u8, out: &mut [u8]) -> u64
+    ensures { λ r. ⌜ made r (now (out .exit)) ≡ failureResponseAt identifier (now (out .entry)) ⌝ }
+{
+    wire::write_failure_response(identifier, out)
+}
+
+#[no_mangle]
+pub extern "C" fn zt_write_eap_success(identifier: u8, out: &mut [u8]) -> u64
+    ensures { λ r. ⌜ made r (now (out .exit)) ≡ eapSuccessAt identifier (now (out .entry)) ⌝ }
+{
+    wire::write_eap_success(identifier, out)
+}
+
+#[no_mangle]
+pub extern "C" fn zt_write_eap_failure(identifier: u8, out: &mut [u8]) -> u64
+    ensures { λ r. ⌜ made r (now (out .exit)) ≡ eapFailureAt identifier (now (out .entry)) ⌝ }
+{
+    wire::write_eap_failure(identifier, out)
 }
 
 #[no_mangle]

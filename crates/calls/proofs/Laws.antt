@@ -1,5 +1,5 @@
 -- How a call at the boundary ends.
-use Prim.Native.Nat.{ℕ, _-_, _/_, _%_, _≤_, _<_}
+use Prim.Native.Nat.{ℕ, _+_, _-_, _/_, _%_, _≤_, _<_}
 use native.Mathlib.Omega.{arith}
 use mathlib.Core.Path.{_≡_, refl, sym, ap, _∙_}
 use mathlib.Core.List.{List, []}
@@ -8,25 +8,19 @@ use lib.Seq.{length-take-le, getD-take, ext-getD}
 use lib.Dec.{ltb}
 use borrow.Author.Tests.{eq-eqb}
 use Rattle.octets.specs.Lists.{cells, sized, put}
-use Rattle.octets.proofs.Exits.{exits, pick-true, pick-false, came-lt, came-ge, and-both, and-first, and-second}
+use Rattle.octets.proofs.Exits.{exits, pick-true, pick-false, arms, came-lt, came-ge, and-both, and-first, and-second}
 use Rattle.octets.proofs.Lists.{length-cells, getD-cells, sized-own, put-whole}
 use Rattle.answer.specs.Outcome.{Told, Outcome, Does}
 use Rattle.answer.specs.declared.Identifier.{Identifier}
-use Rattle.answer.specs.Answer.{refusalOf}
-use Rattle.answer.specs.declared.Refusal.{Refusal}
-use Rattle.answer.proofs.Told.{refusal-some}
-use Rattle.packet.specs.declared.Framed.{Framed}
-use Rattle.packet.specs.declared.Framed.the-variants as frame
-use Rattle.packet.specs.declared.Packet.{Packet}
-use Rattle.packet.specs.declared.Reading.{Reading}
-use Rattle.packet.specs.declared.Reading.the-variants.{Refused, Read}
-use Rattle.packet.specs.Frame.{toldFrame}
-use Rattle.packet.specs.Reader.{toldReading}
+use Rattle.answer.specs.Answer.{numberOf}
+use Rattle.packet.specs.declared.Place.{Place}
+use Rattle.packet.specs.Reader.{nowhere}
 use Rattle.accounts.specs.Account.{appendIn}
 use Rattle.des.specs.Des.{enciphered}
 use Rattle.mschap.specs.Answers.{passwordHashTold, ntResponseTold, authenticatorTold}
 use Rattle.peer.specs.declared.Peer.{Peer}
-use Rattle.peer.specs.Calls.{newOf, stepOf, supplyOf, giveUpOf}
+use Rattle.peer.specs.declared.PeerStep.{PeerStep}
+use Rattle.peer.specs.Calls.{newOf, stepOf, textBy, stepText, DoesTelling, supplyOf, giveUpOf}
 use Rattle.server.specs.declared.Server.{Server}
 use Rattle.server.specs.State.{initial}
 use Rattle.server.specs.Calls.{startOf, packetOf, resendOf}
@@ -34,59 +28,95 @@ use Rattle.state.specs.Stored.{stored}
 use Rattle.state.specs.PeerOctets.{peerOctets, peerOf, octetsOfPeer}
 use Rattle.state.specs.ServerOctets.{serverOctets, serverOf, octetsOfServer}
 use Rattle.state.proofs.Puts.{stored-so}
-use Rattle.calls.specs.Done.{wordOf, done, ended, kept, made, given, givenBy, wrote}
+use Rattle.calls.specs.Done.{wordOf, textBits, wordTelling, Done, done, ended, kept, telling, made, given, givenBy, wrote}
 use Rattle.calls.specs.Inner.{Encoded}
 use Rattle.calls.specs.Ends.{begun, serverNewAt}
-use Rattle.calls.specs.Stateless.{unitAt, unitsOf, withoutEnd}
+use Rattle.calls.specs.Stateless.{unitAt, unitsOf}
 
--- ---- the word: number and n can be read back, and no bit is set above them
-pub number-back : (k n : ℕ) → k < 256 → wordOf k n % 256 ≡ k
-unfolding wordOf
-number-back k n h = omega arith
+-- ---- the word: number, n and the text's place can be read back, and where none is told no bit is set above n
+pub number-back : (k n : ℕ) (text : Place) → k < 256 → wordTelling k n text % 256 ≡ k
+unfolding wordOf textBits
+number-back k n text h = omega arith
 
-pub n-back : (k n : ℕ) → k < 256 → n < 16777216 → wordOf k n / 256 ≡ n
-unfolding wordOf
-n-back k n h l = omega arith
+pub n-back : (k n : ℕ) (text : Place) → k < 256 → n < 16777216 → wordTelling k n text / 256 % 16777216 ≡ n
+unfolding wordOf textBits
+n-back k n text h l = omega arith
+
+pub start-back : (k n : ℕ) (text : Place) → k < 256 → text .start < 65536 → wordTelling k n text / 4294967296 % 65536 ≡ text .start
+unfolding wordOf textBits
+start-back k n text h l = omega arith
+
+pub len-back : (k n : ℕ) (text : Place) → k < 256 → text .len < 65536 → wordTelling k n text / 281474976710656 ≡ text .len
+unfolding wordOf textBits
+len-back k n text h l = omega arith
 
 pub word-small : (k n : ℕ) → k < 256 → wordOf k n < 4294967296
 unfolding wordOf
 word-small k n h = omega arith
 
--- ---- the state is written, or not
-pub encoded-so : (size k m n : ℕ) (q before after : List ℕ) (w : ℕ) → k ≡ m → k < 10 → after ≡ stored size q before → length before ≡ size → w ≡ wordOf k n → Encoded m n q before w after
-encoded-so size k m n q before after w e h f l g = record {
-  answered = g ∙ ap (λ (j : ℕ). wordOf j n) e;
-  left = f ∙ stored-so size q before l ∙ sym (pick-true _ _ _ (came-lt k m 10 e h));
-}
+pub word-none : (k n : ℕ) → wordTelling k n nowhere ≡ wordOf k n
+unfolding textBits
+word-none k n = omega arith
 
-pub encoded-not : (k m n : ℕ) (q before : List ℕ) (w : ℕ) → k ≡ m → 10 ≤ k → w ≡ wordOf k n → Encoded m n q before w before
-encoded-not k m n q before w e h g = record {
-  answered = g ∙ ap (λ (j : ℕ). wordOf j n) e;
-  left = sym (pick-false _ _ _ (came-ge k m 10 e h));
-}
+pub telling-none : (d : Done) → telling nowhere d ≡ d
+unfolding telling textBits
+telling-none d = let e : d .word + 0 ≡ d .word = omega arith in (λ i. done (e i) (d .state) (d .reply))
+
+-- no text, whatever the answer
+text-by-none : (k : ℕ) → textBy k nowhere ≡ nowhere
+unfolding textBy
+text-by-none k = arms (λ (a : Place). a ≡ nowhere) (ltb k 10) refl refl
+
+pub word-quiet : (k n : ℕ) → wordTelling k n (textBy k nowhere) ≡ wordOf k n
+word-quiet k n = ap (wordTelling k n) (text-by-none k) ∙ word-none k n
+
+pub telling-quiet : (k : ℕ) (d : Done) → telling (textBy k nowhere) d ≡ d
+telling-quiet k d = ap (λ (a : Place). telling a d) (text-by-none k) ∙ telling-none d
+
+-- ---- the state is written, or not
+pub encoded-so : (size k m due : ℕ) (q before after : List ℕ) (w : ℕ) → k ≡ m → k < 10 → after ≡ stored size q before → length before ≡ size → w ≡ due → Encoded due m q before w after
+encoded-so size k m due q before after w e h f l g = record { answered = g; left = f ∙ stored-so size q before l ∙ sym (pick-true _ _ _ (came-lt k m 10 e h)) }
+
+pub encoded-not : (k m due : ℕ) (q before : List ℕ) (w : ℕ) → k ≡ m → 10 ≤ k → w ≡ due → Encoded due m q before w before
+encoded-not k m due q before w e h g = record { answered = g; left = sym (pick-false _ _ _ (came-ge k m 10 e h)) }
+
+pub word-by : (k m n w : ℕ) → k ≡ m → w ≡ wordOf k n → w ≡ wordOf m n
+word-by k m n w e g = g ∙ ap (λ (j : ℕ). wordOf j n) e
+
+pub word-telling-by : (k m n : ℕ) (text : Place) (w : ℕ) → k ≡ m → w ≡ wordTelling k n text → w ≡ wordTelling m n text
+word-telling-by k m n text w e g = g ∙ ap (λ (j : ℕ). wordTelling j n text) e
 
 -- ---- an end's call, told in octets
-ended-by : {S : Type 0} (octetsOf : S → List ℕ) (o : Outcome S) (k n : ℕ) (s : S) (state after reply reply′ : List ℕ) (w : ℕ) → Does o k n s reply reply′ → Encoded k n (octetsOf s) state w after → done w after reply′ ≡ ended octetsOf o state reply
+ended-by : {S : Type 0} (octetsOf : S → List ℕ) (o : Outcome S) (k n : ℕ) (s : S) (state after reply reply′ : List ℕ) (w : ℕ) → Does o k n s reply reply′ → Encoded (wordOf k n) k (octetsOf s) state w after → done w after reply′ ≡ ended octetsOf o state reply
 unfolding ended
 ended-by octetsOf o k n s state after reply reply′ w d z = rw (z .answered, z .left, d .answered, d .count, d .left, d .written)
 
-pub new-begun : (name hash octets state after : List ℕ) (k n j : ℕ) (p : Peer) (w : ℕ) → Does (newOf name octets) k n p [] [] → octets ≡ hash → after ≡ stored peerOctets (octetsOfPeer p) state → length state ≡ peerOctets → j ≡ k → w ≡ wordOf j n → done w after [] ≡ begun (newOf name hash)
+-- and a call that tells a text
+told-by : (o : Outcome Peer) (text : Place) (r : PeerStep) (state after reply reply′ : List ℕ) (w : ℕ) → DoesTelling o text r reply reply′ → Encoded (wordTelling (numberOf (r .answer)) (r .n) (r .text)) (numberOf (r .answer)) (octetsOfPeer (r .peer)) state w after → done w after reply′ ≡ telling text (ended octetsOfPeer o state reply)
+unfolding ended telling
+told-by o text r state after reply reply′ w t z =
+    let d = t .does in
+    rw (z .answered, z .left, d .answered, d .count, d .left, d .written, t .told)
+
+pub new-begun : (name hash octets state after : List ℕ) (r : PeerStep) (j w : ℕ) → DoesTelling (newOf name octets) nowhere r [] [] → octets ≡ hash → after ≡ stored peerOctets (octetsOfPeer (r .peer)) state → length state ≡ peerOctets → j ≡ numberOf (r .answer) → w ≡ wordOf j (r .n) → done w after [] ≡ begun (newOf name hash)
 unfolding begun
-new-begun name hash octets state after k n j p w d e f l g h = rw (h, g, f, stored-so peerOctets (octetsOfPeer p) state l, ← e, d .answered, d .count, d .left)
+new-begun name hash octets state after r j w t e f l g h =
+    let d = t .does in
+    rw (h, g, f, stored-so peerOctets (octetsOfPeer (r .peer)) state l, ← e, d .answered, d .count, d .left)
 
-pub step-ended : (p : Peer) (state after packet octets random reply reply′ : List ℕ) (k n : ℕ) (s : Peer) (w : ℕ) → Does (stepOf p packet octets (length reply)) k n s reply reply′ → Encoded k n (octetsOfPeer s) state w after → p ≡ peerOf state → octets ≡ random → done w after reply′ ≡ ended octetsOfPeer (stepOf (peerOf state) packet random (length reply)) state reply
-step-ended p state after packet octets random reply reply′ k n s w d z e f = ended-by octetsOfPeer _ k n s state after reply reply′ w (rw (← e, ← f) d) z
+pub step-ended : (p : Peer) (state after packet octets random reply reply′ : List ℕ) (r : PeerStep) (w : ℕ) → DoesTelling (stepOf p packet octets (length reply)) (stepText p packet octets (length reply)) r reply reply′ → Encoded (wordTelling (numberOf (r .answer)) (r .n) (r .text)) (numberOf (r .answer)) (octetsOfPeer (r .peer)) state w after → p ≡ peerOf state → octets ≡ random → done w after reply′ ≡ telling (stepText (peerOf state) packet random (length reply)) (ended octetsOfPeer (stepOf (peerOf state) packet random (length reply)) state reply)
+step-ended p state after packet octets random reply reply′ r w d z e f = told-by _ _ r state after reply reply′ w (rw (← e, ← f) d) z
 
-pub supply-ended : (p : Peer) (state after name own hash octets random reply reply′ : List ℕ) (k n : ℕ) (s : Peer) (w : ℕ) → Does (supplyOf p name own octets (length reply)) k n s reply reply′ → Encoded k n (octetsOfPeer s) state w after → p ≡ peerOf state → own ≡ hash → octets ≡ random → done w after reply′ ≡ ended octetsOfPeer (supplyOf (peerOf state) name hash random (length reply)) state reply
-supply-ended p state after name own hash octets random reply reply′ k n s w d z e f g = ended-by octetsOfPeer _ k n s state after reply reply′ w (rw (← e, ← f, ← g) d) z
+pub supply-ended : (p : Peer) (state after name own hash octets random reply reply′ : List ℕ) (r : PeerStep) (w : ℕ) → DoesTelling (supplyOf p name own octets (length reply)) nowhere r reply reply′ → Encoded (wordTelling (numberOf (r .answer)) (r .n) (r .text)) (numberOf (r .answer)) (octetsOfPeer (r .peer)) state w after → p ≡ peerOf state → own ≡ hash → octets ≡ random → done w after reply′ ≡ ended octetsOfPeer (supplyOf (peerOf state) name hash random (length reply)) state reply
+supply-ended p state after name own hash octets random reply reply′ r w d z e f g = told-by _ nowhere r state after reply reply′ w (rw (← e, ← f, ← g) d) z ∙ telling-none _
 
-pub give-up-ended : (p : Peer) (state after : List ℕ) (k n : ℕ) (s : Peer) (w : ℕ) → Does (giveUpOf p) k n s [] [] → Encoded k n (octetsOfPeer s) state w after → p ≡ peerOf state → done w after [] ≡ ended octetsOfPeer (giveUpOf (peerOf state)) state []
-give-up-ended p state after k n s w d z e = ended-by octetsOfPeer _ k n s state after [] [] w (rw (← e) d) z
+pub give-up-ended : (p : Peer) (state after : List ℕ) (r : PeerStep) (w : ℕ) → DoesTelling (giveUpOf p) nowhere r [] [] → Encoded (wordTelling (numberOf (r .answer)) (r .n) (r .text)) (numberOf (r .answer)) (octetsOfPeer (r .peer)) state w after → p ≡ peerOf state → done w after [] ≡ ended octetsOfPeer (giveUpOf (peerOf state)) state []
+give-up-ended p state after r w d z e = told-by _ nowhere r state after [] [] w (rw (← e) d) z ∙ telling-none _
 
-pub start-ended : (p : Server) (state after : List ℕ) (id : Identifier) (octets challenge name : List ℕ) (retries : ℕ) (reply reply′ : List ℕ) (k n : ℕ) (s : Server) (w : ℕ) → Does (startOf p id octets name retries (length reply)) k n s reply reply′ → Encoded k n (octetsOfServer s) state w after → p ≡ serverOf state → octets ≡ challenge → done w after reply′ ≡ ended octetsOfServer (startOf (serverOf state) id challenge name retries (length reply)) state reply
+pub start-ended : (p : Server) (state after : List ℕ) (id : Identifier) (octets challenge name : List ℕ) (retries : ℕ) (reply reply′ : List ℕ) (k n : ℕ) (s : Server) (w : ℕ) → Does (startOf p id octets name retries (length reply)) k n s reply reply′ → Encoded (wordOf k n) k (octetsOfServer s) state w after → p ≡ serverOf state → octets ≡ challenge → done w after reply′ ≡ ended octetsOfServer (startOf (serverOf state) id challenge name retries (length reply)) state reply
 start-ended p state after id octets challenge name retries reply reply′ k n s w d z e f = ended-by octetsOfServer _ k n s state after reply reply′ w (rw (← e, ← f) d) z
 
-pub packet-ended : (p : Server) (state after packet table octets challenge reply reply′ : List ℕ) (k n : ℕ) (s : Server) (w : ℕ) → Does (packetOf p packet table octets (length reply)) k n s reply reply′ → Encoded k n (octetsOfServer s) state w after → p ≡ serverOf state → octets ≡ challenge → done w after reply′ ≡ ended octetsOfServer (packetOf (serverOf state) packet table challenge (length reply)) state reply
+pub packet-ended : (p : Server) (state after packet table octets challenge reply reply′ : List ℕ) (k n : ℕ) (s : Server) (w : ℕ) → Does (packetOf p packet table octets (length reply)) k n s reply reply′ → Encoded (wordOf k n) k (octetsOfServer s) state w after → p ≡ serverOf state → octets ≡ challenge → done w after reply′ ≡ ended octetsOfServer (packetOf (serverOf state) packet table challenge (length reply)) state reply
 packet-ended p state after packet table octets challenge reply reply′ k n s w d z e f = ended-by octetsOfServer _ k n s state after reply reply′ w (rw (← e, ← f) d) z
 
 pub resend-kept : (p : Server) (state reply reply′ : List ℕ) (k j n : ℕ) (s : Server) (w : ℕ) → Does (resendOf p (length reply)) k n s reply reply′ → p ≡ serverOf state → j ≡ k → w ≡ wordOf j n → done w state reply′ ≡ kept (resendOf (serverOf state) (length reply)) state reply
@@ -100,20 +130,6 @@ new-server state after s e f h =
     rw g (sym (pick-true _ _ _ (eq-eqb _ _ h)))
 
 -- ---- a call without a state
-pub read-refused : (x : Reading) (why : Refusal) (k w : ℕ) → x ≡ Refused why → k ≡ refusalOf why → w ≡ wordOf k 0 → w ≡ wordOf (toldReading x .number) 0
-read-refused x why k w e f g = rw e (g ∙ ap (λ (j : ℕ). wordOf j 0) f)
-
-pub read-read : (x : Reading) (k : Packet) (w : ℕ) → x ≡ Read k → w ≡ wordOf 0 0 → w ≡ wordOf (toldReading x .number) 0
-read-read x k w e g = rw e g
-
-pub frame-refused : (x : Framed) (why : Refusal) (k w : ℕ) → x ≡ frame.Refused why → k ≡ refusalOf why → w ≡ wordOf k 0 → w ≡ wordOf (withoutEnd (toldFrame x)) 0
-unfolding withoutEnd
-frame-refused x why k w e f g = rw e (g ∙ ap (λ (j : ℕ). wordOf j 0) (f ∙ sym (pick-false _ _ _ (refusal-some why))))
-
-pub frame-of : (x : Framed) (l w : ℕ) → x ≡ frame.Of l → w ≡ wordOf 23 0 → w ≡ wordOf (withoutEnd (toldFrame x)) 0
-unfolding withoutEnd
-frame-of x l w e g = rw e (g ∙ ap (λ (j : ℕ). wordOf j 0) (sym (pick-true _ _ _ refl)))
-
 pub given-so : (k m : ℕ) (q out after : List ℕ) (w : ℕ) → k ≡ m → k < 10 → after ≡ put out 0 q → length q ≡ length out → w ≡ wordOf k 0 → made w after ≡ given m q out
 unfolding given
 given-so k m q out after w e h f l g = rw (g, f, put-whole out q l, pick-true (ltb m 10) q out (came-lt k m 10 e h), ← e)

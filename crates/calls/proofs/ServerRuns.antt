@@ -24,10 +24,13 @@ use Rattle.server.proofs.Effects.{by-moves}
 use Rattle.server.proofs.WrongGuess.{wrong-guess}
 use Rattle.state.specs.ServerOctets.{serverOctets, serverOf, octetsOfServer}
 use Rattle.state.proofs.Trips.{server-back, is-server, length-octets-of-server}
-use Rattle.calls.specs.Done.{wordOf, Done, done, unsized, ended, kept}
+use Rattle.packet.specs.Reader.{nowhere}
+use Rattle.peer.specs.Calls.{textBy}
+use Rattle.calls.specs.Done.{wordOf, textBits, Done, done, unsized, ended, kept}
 use Rattle.calls.specs.Ends.{isServer, isSixteen, serverNewAt, serverStartAt, serverPacketAt, serverResendAt}
 use Rattle.calls.specs.Run.{runAt, ServerCall, renews, calls, serverReply, serverCallAt, areSixteen, serverCall, ServerCarried, lentAt, NotRightAt, NoneRightAt, WrongGuessAt}
 use Rattle.calls.proofs.Carry.{Shows, carry, Proper, ended-shows, sized-shows}
+use Rattle.calls.proofs.Laws.{word-quiet}
 
 -- ---- every call leaves a value of the struct, and a refused one the state that it took
 is-asked : (stage : Stage) (id : Identifier) (challenge : List ℕ) (retries : ℕ) (q : List ℕ) (s : Server) → length challenge ≡ 16 → IsServer (asked stage id challenge retries q s)
@@ -50,7 +53,7 @@ proper s c e z = by-moves (Proper IsServer s) s c (λ k l. record { is = z; stil
     go (resending b) e = record { is = z; still = λ h. refl }
 
 -- ---- what a call shows
-server-ended : (c : Call (List ℕ)) (s : List ℕ) → length s ≡ serverOctets → areSixteen c ≡ true → Shows serverOf serverOctets (ended octetsOfServer (outcomeOf (serverOf s) c) s (replyOf c)) (outcomeOf (serverOf s) c) (replyOf c)
+server-ended : (c : Call (List ℕ)) (s : List ℕ) → length s ≡ serverOctets → areSixteen c ≡ true → Shows serverOf serverOctets (ended octetsOfServer (outcomeOf (serverOf s) c) s (replyOf c)) nowhere (outcomeOf (serverOf s) c) (replyOf c)
 server-ended c s h e =
     ended-shows octetsOfServer serverOf IsServer serverOctets server-back length-octets-of-server _ s (replyOf c) h (proper (serverOf s) c e (is-server s))
 
@@ -58,8 +61,8 @@ pub is-initial : IsServer initial
 unfolding initial
 is-initial = record { challenge = refl; request = refl }
 
-new-shows : (s : List ℕ) → length s ≡ serverOctets → Shows serverOf serverOctets (serverNewAt s) (outcome 0 [] initial) []
-unfolding serverNewAt wordOf
+new-shows : (s : List ℕ) → length s ≡ serverOctets → Shows serverOf serverOctets (serverNewAt s) nowhere (outcome 0 [] initial) []
+unfolding serverNewAt wordOf textBy textBits pick
 new-shows s h =
     rw (pick-true (isServer s) _ _ (eq-eqb _ _ h))
     (record { same = (λ i. record { word = 0; reply = []; state = server-back initial is-initial i }); long = length-octets-of-server initial is-initial })
@@ -69,22 +72,22 @@ resend-state : (s : Server) (room : ℕ) → resendOf s room .state ≡ s
 unfolding resendOf fitting
 resend-state s room = arms (λ (o : Outcome Server). o .state ≡ s) _ refl (arms (λ (o : Outcome Server). o .state ≡ s) _ refl refl)
 
-kept-shows : (o : Outcome Server) (s reply : List ℕ) → length s ≡ serverOctets → o .state ≡ serverOf s → Shows serverOf serverOctets (kept o s reply) o reply
+kept-shows : (o : Outcome Server) (s reply : List ℕ) → length s ≡ serverOctets → o .state ≡ serverOf s → Shows serverOf serverOctets (kept o s reply) nowhere o reply
 unfolding kept
-kept-shows o s reply h e = record { same = rw e; long = h }
+kept-shows o s reply h e = record { same = rw (e, word-quiet (o .number) (length (o .octets))); long = h }
 
-server-shows : (c : ServerCall (List ℕ)) (s : List ℕ) → length s ≡ serverOctets → Shows serverOf serverOctets (serverCallAt s c) (serverCall (serverOf s) c) (serverReply c)
+server-shows : (c : ServerCall (List ℕ)) (s : List ℕ) → length s ≡ serverOctets → Shows serverOf serverOctets (serverCallAt s c) nowhere (serverCall (serverOf s) c) (serverReply c)
 unfolding serverStartAt serverPacketAt serverResendAt
 server-shows renews s h = new-shows s h
 server-shows (calls (starts id challenge name retries reply)) s h =
-    sized-shows serverOf serverOctets (isServer s) (isSixteen challenge) _ s reply _ (eq-eqb _ _ h) h (server-ended (starts id challenge name retries reply) s h)
+    sized-shows serverOf serverOctets (isServer s) (isSixteen challenge) _ s reply nowhere _ (eq-eqb _ _ h) h (server-ended (starts id challenge name retries reply) s h)
 server-shows (calls (brings packet table fresh reply)) s h =
-    sized-shows serverOf serverOctets (isServer s) (isSixteen fresh) _ s reply _ (eq-eqb _ _ h) h (server-ended (brings packet table fresh reply) s h)
+    sized-shows serverOf serverOctets (isServer s) (isSixteen fresh) _ s reply nowhere _ (eq-eqb _ _ h) h (server-ended (brings packet table fresh reply) s h)
 server-shows (calls (resends reply)) s h =
     rw (pick-true (isServer s) _ _ (eq-eqb _ _ h), pick-true true _ _ refl) (kept-shows _ s reply h (resend-state (serverOf s) (length reply)))
 
 pub server-carried : ServerCarried
-server-carried = carry serverOf serverOctets serverCallAt serverCall serverReply server-shows
+server-carried = carry serverOf serverOctets serverCallAt serverCall (λ _. nowhere) serverReply server-shows
 
 -- ---- the wrong-guess rule
 -- whether a call writes the state where it is not refused

@@ -15,37 +15,12 @@ use Rattle.accounts.proofs.Appending.{appends-exact}
 use Rattle.digest.specs.Md4.{md4Told}
 use Rattle.digest.specs.Sha1.{sha1Told}
 use Rattle.mschap.specs.Answers.{limited, passwordHashTold, ntResponseTold, authenticatorTold}
-use Rattle.packet.specs.declared.End.{End}
-use Rattle.packet.specs.declared.End.the-variants as end
-use Rattle.packet.specs.declared.Packet.{Packet}
-use Rattle.packet.specs.Frame.{frameOf}
-use Rattle.packet.specs.Promises.{ReadOrRefused, refused-by, read-as}
-use Rattle.packet.specs.Reader.{readPacket}
-use Rattle.packet.proofs.Frames.{framed-so}
-use Rattle.packet.proofs.Readings.{read-or-refused}
 use Rattle.calls.specs.Done.{wordOf, made, given, givenBy, wrote}
-use Rattle.calls.specs.Stateless.{has, withoutEnd, readAt, accountsAppendAt, md4At, sha1At, passwordHashAt, desAt, ntResponseAt, authenticatorAt}
+use Rattle.calls.specs.Stateless.{has, accountsAppendAt, md4At, sha1At, passwordHashAt, desAt, ntResponseAt, authenticatorAt}
 use Rattle.calls.specs.Promises as promises
 use Rattle.calls.specs.Promises.{NumberAt, good, refusal, MakesAt, gives, refuses, WritesAt, StatelessAnswer}
 
--- ---- a reader, and the check of a table
-read-number : (e : End) (packet : List ℕ) → NumberAt (wordOf (readPacket e packet .number) 0)
-read-number e packet = go (read-or-refused e packet)
-  where
-    go : {t : Told Packet} → ReadOrRefused packet t → NumberAt (wordOf (t .number) 0)
-    go (refused-by n h l) = refusal n (h, omega arith)
-    go (read-as x i) = good
-
-frame-number : (packet : List ℕ) → NumberAt (wordOf (withoutEnd (frameOf packet)) 0)
-unfolding frameOf withoutEnd pick
-frame-number packet =
-    framed-so (λ k. told.refuses k 0) (λ q. told.gives (length q)) (λ t. NumberAt (wordOf (withoutEnd t) 0)) packet
-    (refusal 10 (omega arith, omega arith)) (refusal 11 (omega arith, omega arith)) (refusal 12 (omega arith, omega arith)) (λ f. refusal 23 (omega arith, omega arith))
-
-read-at : (e : ℕ) (packet : List ℕ) → NumberAt (readAt e packet)
-unfolding readAt
-read-at e packet = arms NumberAt _ (read-number end.Peer packet) (arms NumberAt _ (read-number end.Server packet) (frame-number packet))
-
+-- ---- the check of a table
 check-at : (table : List ℕ) → NumberAt (wordOf (checkNumber table) 0)
 unfolding checkNumber
 check-at table = arms (λ (k : ℕ). NumberAt (wordOf k 0)) _ (refusal 21 (omega arith, omega arith)) good
@@ -78,7 +53,6 @@ out-at b t out h = arms (MakesAt out) b h (refuses 23 (omega arith, omega arith)
 pub stateless-answer : StatelessAnswer
 unfolding md4At sha1At passwordHashAt desAt ntResponseAt authenticatorAt md4Told sha1Told passwordHashTold ntResponseTold authenticatorTold limited wordOf
 stateless-answer = record {
-  read = read-at;
   check = check-at;
   append = append-at;
   md4 = λ message out. out-at _ _ out (told-out _ _ _ out);

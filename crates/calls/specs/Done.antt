@@ -6,10 +6,18 @@ use lib.Dec.{ltb}
 use Rattle.octets.specs.Choice.{pick}
 use Rattle.octets.specs.Lists.{over}
 use Rattle.answer.specs.Outcome.{Told, Outcome}
+use Rattle.packet.specs.declared.Place.{Place}
 
 -- the paper's number in bits 0 to 7, n in bits 8 to 31, and zeros above
 unfoldable pub wordOf : ℕ → ℕ → ℕ
 wordOf number n = number + n % 16777216 * 256
+
+-- 02 [7]: a text's start in bits 32 to 47 and its length in bits 48 to 63
+unfoldable pub textBits : Place → ℕ
+textBits text = text .start % 65536 * 4294967296 + text .len % 65536 * 281474976710656
+
+abbrev pub wordTelling : ℕ → ℕ → Place → ℕ
+wordTelling number n text = wordOf number n + textBits text
 
 -- ---- a call of an end: its word, the state's octets and the reply buffer
 pub record Done : Type 0 where
@@ -32,6 +40,10 @@ ended octetsOf o state reply =
 -- the same of a call that only reads the state
 unfoldable pub kept : {S : Type 0} → Outcome S → List ℕ → List ℕ → Done
 kept o state reply = done (wordOf (o .number) (length (o .octets))) state (over (o .octets) reply)
+
+-- the same where the call tells a text
+unfoldable pub telling : Place → Done → Done
+telling text d = done (d .word + textBits text) (d .state) (d .reply)
 
 -- ---- a call without a state: its word and the output buffer
 pub record Made : Type 0 where

@@ -7,12 +7,12 @@ use lib.Dec.{eqb}
 use Rattle.octets.specs.Choice.{pick}
 use Rattle.answer.specs.Outcome.{Outcome}
 use Rattle.peer.specs.declared.Peer.{Peer}
-use Rattle.peer.specs.Calls.{newOf, stepOf, supplyOf, giveUpOf}
+use Rattle.peer.specs.Calls.{newOf, stepOf, stepText, supplyOf, giveUpOf}
 use Rattle.server.specs.State.{initial}
 use Rattle.server.specs.Calls.{startOf, packetOf, resendOf}
 use Rattle.state.specs.PeerOctets.{peerOctets, peerOf, octetsOfPeer}
 use Rattle.state.specs.ServerOctets.{serverOctets, serverOf, octetsOfServer}
-use Rattle.calls.specs.Done.{wordOf, Done, done, unsized, ended, kept}
+use Rattle.calls.specs.Done.{wordOf, Done, done, unsized, ended, kept, telling}
 
 abbrev pub isPeer : List ℕ → Bool
 isPeer state = eqb (length state) peerOctets
@@ -38,7 +38,7 @@ peerNewAt state name hash =
 unfoldable pub peerStepAt : List ℕ → List ℕ → List ℕ → List ℕ → Done
 peerStepAt state packet random reply =
     pick (isPeer state && isSixteen random)
-    (ended octetsOfPeer (stepOf (peerOf state) packet random (length reply)) state reply)
+    (telling (stepText (peerOf state) packet random (length reply)) (ended octetsOfPeer (stepOf (peerOf state) packet random (length reply)) state reply))
     (unsized state reply)
 
 unfoldable pub peerSupplyAt : List ℕ → List ℕ → List ℕ → List ℕ → List ℕ → Done

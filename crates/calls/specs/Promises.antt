@@ -8,28 +8,33 @@ use lib.ListN.{length, replicate}
 use Rattle.octets.specs.Lists.{over}
 use Rattle.answer.specs.Promises.{IsRefusal}
 use Rattle.answer.specs.Sizes.{maxName}
+use Rattle.packet.specs.declared.Place.{Place}
+use Rattle.packet.specs.Reader.{nowhere}
 use Rattle.accounts.specs.Accounts.{checkNumber}
 use Rattle.peer.specs.declared.Stage.the-variants.{Failed}
 use Rattle.peer.specs.State.{initial}
 use Rattle.state.specs.PeerOctets.{peerOf, octetsOfPeer}
 use Rattle.state.specs.ServerOctets.{serverOf}
 use Rattle.state.specs.Promises.{IsPeerState, IsServerState}
-use Rattle.calls.specs.Done.{wordOf, Done, done, Made, made}
+use Rattle.calls.specs.Done.{wordOf, wordTelling, Done, done, Made, made}
 use Rattle.calls.specs.Ends.{isPeer, isSixteen, serverResendAt}
-use Rattle.calls.specs.Run.{PeerCall, makes, steps, supplies, givesUp, peerReply, peerCallAt, peerCall, ServerCall, serverReply, serverCallAt, serverCall}
-use Rattle.calls.specs.Stateless.{readAt, accountsAppendAt, md4At, sha1At, passwordHashAt, desAt, ntResponseAt, authenticatorAt}
+use Rattle.calls.specs.Run.{PeerCall, makes, steps, supplies, givesUp, peerReply, peerText, peerCallAt, peerCall, ServerCall, serverReply, serverCallAt, serverCall}
+use Rattle.calls.specs.Stateless.{accountsAppendAt, md4At, sha1At, passwordHashAt, desAt, ntResponseAt, authenticatorAt}
 
--- ---- number and n can be read back from a word, and no bit is set above them
+-- ---- number, n and the place of a text can be read back from a word; where none is told, no bit is set above n
 pub record WordBack : Type 0 where
-  pub number : (k n : ℕ) → k < 256 → wordOf k n % 256 ≡ k
-  pub n : (k n : ℕ) → k < 256 → n < 16777216 → wordOf k n / 256 ≡ n
+  pub number : (k n : ℕ) (text : Place) → k < 256 → wordTelling k n text % 256 ≡ k
+  pub n : (k n : ℕ) (text : Place) → k < 256 → n < 16777216 → wordTelling k n text / 256 % 16777216 ≡ n
+  pub start : (k n : ℕ) (text : Place) → k < 256 → text .start < 65536 → wordTelling k n text / 4294967296 % 65536 ≡ text .start
+  pub len : (k n : ℕ) (text : Place) → k < 256 → text .len < 65536 → wordTelling k n text / 281474976710656 ≡ text .len
   pub small : (k n : ℕ) → k < 256 → wordOf k n < 4294967296
+  pub none : (k n : ℕ) → wordTelling k n nowhere ≡ wordOf k n
 
--- ---- what a call on the octets s of a state, with the reply buffer b, can do: slices of every size
-pub data AnswersAt (s b : List ℕ) : Done → Type 0 where
-  answers : (k : ℕ) (q s′ : List ℕ) → k ≤ 3 → length q ≤ length b → length s′ ≡ length s → AnswersAt s b (done (wordOf k (length q)) s′ (over q b))
+-- ---- what a call on the octets s of a state, with the reply buffer b, can do: slices of every size. The text is told where it answers
+pub data AnswersAt (s b : List ℕ) (text : Place) : Done → Type 0 where
+  answers : (k : ℕ) (q s′ : List ℕ) → k ≤ 3 → length q ≤ length b → length s′ ≡ length s → AnswersAt s b text (done (wordTelling k (length q) text) s′ (over q b))
   -- "Numbers from 10 up change no state and no lent octet, and n = 0."
-  refuses : (k : ℕ) → IsRefusal k → AnswersAt s b (done (wordOf k 0) s b)
+  refuses : (k : ℕ) → IsRefusal k → AnswersAt s b text (done (wordOf k 0) s b)
 
 -- "23 and a FAILED peer, all else zero": the one refusal that writes a state
 abbrev pub MakesFailed : List ℕ → PeerCall → Type 0
@@ -40,10 +45,10 @@ MakesFailed s (supplies name hash random reply) = ⊥
 MakesFailed s givesUp = ⊥
 
 abbrev pub PeerAnswersAt : Type 0
-PeerAnswersAt = (s : List ℕ) (c : PeerCall) → AnswersAt s (peerReply c) (peerCallAt s c) ⊎ MakesFailed s c
+PeerAnswersAt = (s : List ℕ) (c : PeerCall) → AnswersAt s (peerReply c) (peerText c) (peerCallAt s c) ⊎ MakesFailed s c
 
 abbrev pub ServerAnswersAt : Type 0
-ServerAnswersAt = (s : List ℕ) (c : ServerCall (List ℕ)) → AnswersAt s (serverReply c) (serverCallAt s c)
+ServerAnswersAt = (s : List ℕ) (c : ServerCall (List ℕ)) → AnswersAt s (serverReply c) nowhere (serverCallAt s c)
 
 -- ---- "state unchanged" holds of the octets: where the call leaves the state that they stand for, it leaves the octets
 abbrev pub PeerStays : Type 0
@@ -72,7 +77,6 @@ pub data WritesAt (out : List ℕ) : Made → Type 0 where
   refuses : (k : ℕ) → IsRefusal k → WritesAt out (made (wordOf k 0) out)
 
 pub record StatelessAnswer : Type 0 where
-  pub read : (end : ℕ) (packet : List ℕ) → NumberAt (readAt end packet)
   pub check : (table : List ℕ) → NumberAt (wordOf (checkNumber table) 0)
   pub append : (buffer : List ℕ) (used code : ℕ) (hash name : List ℕ) → WritesAt buffer (accountsAppendAt buffer used code hash name)
   pub md4 : (message out : List ℕ) → MakesAt out (md4At message out)

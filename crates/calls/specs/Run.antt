@@ -8,8 +8,12 @@ use Rattle.octets.specs.Choice.{pick}
 use Rattle.octets.specs.Lists.{over}
 use Rattle.answer.specs.Outcome.{Outcome, outcome, refused}
 use Rattle.answer.specs.Runs.{run}
+use Rattle.packet.specs.declared.End.the-variants as end
+use Rattle.packet.specs.declared.Place.{Place}
+use Rattle.packet.specs.Reader.{nowhere}
+use Rattle.packet.specs.Texts.{textPlace}
 use Rattle.peer.specs.declared.Peer.{Peer}
-use Rattle.peer.specs.Calls.{newOf}
+use Rattle.peer.specs.Calls.{newOf, textBy}
 use Rattle.peerlaws.specs.Runs as peer
 use Rattle.peerlaws.specs.Runs.{step, supply, giveUp, callOf}
 use Rattle.peerlaws.specs.Expected.{computing}
@@ -19,7 +23,7 @@ use Rattle.server.specs.Runs.{Call, starts, brings, resends, replyOf, outcomeOf
 use Rattle.server.specs.Guess.{Side, one, two, lentTo, NotRight}
 use Rattle.state.specs.PeerOctets.{peerOctets, peerOf}
 use Rattle.state.specs.ServerOctets.{serverOctets, serverOf}
-use Rattle.calls.specs.Done.{wordOf, Done}
+use Rattle.calls.specs.Done.{wordTelling, Done}
 use Rattle.calls.specs.Ends.{isServer, isSixteen, peerNewAt, peerStepAt, peerSupplyAt, peerGiveUpAt, serverNewAt, serverStartAt, serverPacketAt, serverResendAt}
 
 -- what a call shows: its word, the whole reply buffer, and the state that its octets stand for
@@ -31,17 +35,18 @@ pub record Shown (S : Type 0) : Type 0 where
 abbrev pub shownAt : {S : Type 0} → (List ℕ → S) → Done → Shown S
 shownAt decode d = record { word = d .word; reply = d .reply; state = decode (d .state) }
 
-abbrev pub shown : {S : Type 0} → Outcome S → List ℕ → Shown S
-shown o reply = record { word = wordOf (o .number) (length (o .octets)); reply = over (o .octets) reply; state = o .state }
+-- of a call that tells a text where it is not refused
+abbrev pub shown : {S : Type 0} → Place → Outcome S → List ℕ → Shown S
+shown text o reply = record { word = wordTelling (o .number) (length (o .octets)) (textBy (o .number) text); reply = over (o .octets) reply; state = o .state }
 
 -- calls at the boundary: each takes the octets that the last one left
 abbrev pub runAt : {C : Type 0} → (List ℕ → C → Done) → List ℕ → List C → List Done
 runAt callAt s cs = run (λ d. d .state) callAt s cs
 
 -- A RUN AT THE BOUNDARY SHOWS WHAT THE RUN BY VALUE SHOWS: any octets of the state's size n, any list of calls, refused ones included
-abbrev pub Carried : {S C : Type 0} → (List ℕ → S) → ℕ → (List ℕ → C → Done) → (S → C → Outcome S) → (C → List ℕ) → Type 0
-Carried {S} {C} decode n callAt call reply =
-    (cs : List C) (s : List ℕ) → length s ≡ n → map (shownAt decode) (runAt callAt s cs) ≡ run (λ v. v .state) (λ p c. shown (call p c) (reply c)) (decode s) cs
+abbrev pub Carried : {S C : Type 0} → (List ℕ → S) → ℕ → (List ℕ → C → Done) → (S → C → Outcome S) → (C → Place) → (C → List ℕ) → Type 0
+Carried {S} {C} decode n callAt call text reply =
+    (cs : List C) (s : List ℕ) → length s ≡ n → map (shownAt decode) (runAt callAt s cs) ≡ run (λ v. v .state) (λ p c. shown (text c) (call p c) (reply c)) (decode s) cs
 
 -- ---- the peer: a call with all that is lent with it; the last is the reply buffer
 pub data PeerCall : Type 0 where
@@ -55,6 +60,13 @@ peerReply (makes name hash) = []
 peerReply (steps packet random reply) = reply
 peerReply (supplies name hash random reply) = reply
 peerReply givesUp = []
+
+-- the text of the packet that a step takes, where the reader tells it to be; the other calls have none
+abbrev pub peerText : PeerCall → Place
+peerText (makes name hash) = nowhere
+peerText (steps packet random reply) = textPlace end.Peer packet
+peerText (supplies name hash random reply) = nowhere
+peerText givesUp = nowhere
 
 abbrev pub peerCallAt : List ℕ → PeerCall → Done
 peerCallAt s (makes name hash) = peerNewAt s name hash
@@ -73,7 +85,7 @@ abbrev pub peerCall : Peer → PeerCall → Outcome Peer
 peerCall p c = peerCallBy callOf p c
 
 abbrev pub PeerCarried : Type 0
-PeerCarried = Carried peerOf peerOctets peerCallAt peerCall peerReply
+PeerCarried = Carried peerOf peerOctets peerCallAt peerCall peerText peerReply
 
 -- 02 [6], "all answers stay as they are", at the boundary: any list of calls that begins by making a peer shows the words, the whole buffers and
 -- the states of the peer that computes the string when a Success Request comes
@@ -81,7 +93,7 @@ abbrev pub AnswersStayAt : Type 0
 AnswersStayAt =
     (name hash : List ℕ) (cs : List PeerCall) (s : List ℕ) → length s ≡ peerOctets → length hash ≡ 16 →
     map (shownAt peerOf) (runAt peerCallAt s (makes name hash ∷ cs))
-    ≡ run (λ v. v .state) (λ p c. shown (peerCallBy computing p c) (peerReply c)) (peerOf s) (makes name hash ∷ cs)
+    ≡ run (λ v. v .state) (λ p c. shown (peerText c) (peerCallBy computing p c) (peerReply c)) (peerOf s) (makes name hash ∷ cs)
 
 -- ---- the server: a call on a state, or a new server in its place
 pub data ServerCall (T : Type 0) : Type 0 where
@@ -108,7 +120,7 @@ serverCall s renews = outcome 0 [] initial
 serverCall s (calls c) = pick (areSixteen c) (outcomeOf s c) (refused 23 s)
 
 abbrev pub ServerCarried : Type 0
-ServerCarried = Carried serverOf serverOctets serverCallAt serverCall serverReply
+ServerCarried = Carried serverOf serverOctets serverCallAt serverCall (λ _. nowhere) serverReply
 
 -- ---- the wrong-guess rule at the boundary
 abbrev pub lentAt : Side → ServerCall (Side → List ℕ) → ServerCall (List ℕ)

@@ -8,31 +8,16 @@ use Rattle.octets.specs.Choice.{pick}
 use Rattle.octets.specs.Lists.{cells}
 use Rattle.octets.specs.Octets.{numberAt}
 use Rattle.octets.specs.declared.Order.the-variants.{Little}
-use Rattle.answer.specs.Outcome.{Told}
-use Rattle.packet.specs.declared.End.the-variants as end
-use Rattle.packet.specs.Frame.{frameOf}
-use Rattle.packet.specs.Reader.{readPacket}
 use Rattle.accounts.specs.Account.{appendIn}
 use Rattle.digest.specs.Md4.{md4Told}
 use Rattle.digest.specs.Sha1.{sha1Told}
 use Rattle.des.specs.Des.{enciphered}
 use Rattle.mschap.specs.Answers.{passwordHashTold, ntResponseTold, authenticatorTold}
-use Rattle.calls.specs.Done.{wordOf, Made, made, givenBy, wrote}
+use Rattle.calls.specs.Done.{Made, made, givenBy, wrote}
 
--- the version of the calls, 0.3.0: major * 10000 + minor * 100 + patch
+-- the version of the calls, 0.4.0: major * 10000 + minor * 100 + patch
 abbrev pub version : ℕ
-version = 300
-
--- for an end that is none, 23 after 10 to 12, which are the same for both ends; t is L, or one of those
-unfoldable pub withoutEnd : Told ℕ → ℕ
-withoutEnd t = pick (eqb (t .number) 0) 23 (t .number)
-
--- an end is 0, the peer, or 1, the server
-unfoldable pub readAt : ℕ → List ℕ → ℕ
-readAt e packet =
-    pick (eqb e 0) (wordOf (readPacket end.Peer packet .number) 0)
-    (pick (eqb e 1) (wordOf (readPacket end.Server packet .number) 0)
-    (wordOf (withoutEnd (frameOf packet)) 0))
+version = 400
 
 abbrev pub has : ℕ → List ℕ → Bool
 has n s = eqb (length s) n

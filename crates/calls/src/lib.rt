@@ -6,35 +6,41 @@ ghost use Prim.Native.Nat.{_<_, _≤_};
 ghost use lib.ListN.{length};
 ghost use Rattle.octets.specs.Lists.{cells};
 ghost use Rattle.answer.specs.Answer.{numberOf};
-ghost use Rattle.packet.specs.Frame.{frameOf, toldFrame};
-ghost use Rattle.packet.specs.Reader.{toldReading, readPacket};
 ghost use Rattle.accounts.specs.Accounts.{checkNumber};
 ghost use Rattle.accounts.specs.Account.{appendIn};
 ghost use Rattle.des.specs.Des.{enciphered};
 ghost use Rattle.mschap.specs.Answers.{passwordHashTold, ntResponseTold, authenticatorTold};
-ghost use Rattle.peer.specs.Calls.{newOf, stepOf, supplyOf, giveUpOf};
+ghost use Rattle.peer.specs.Calls.{newOf, stepOf, stepText, supplyOf, giveUpOf};
 ghost use Rattle.server.specs.Calls.{startOf, packetOf, resendOf};
 ghost use Rattle.state.specs.PeerOctets.{peerOctets, peerOf, octetsOfPeer};
 ghost use Rattle.state.specs.ServerOctets.{serverOctets, serverOf, octetsOfServer};
-ghost use Rattle.calls.specs.Done.{wordOf, done, made, ended, kept, given, givenBy, wrote};
+ghost use Rattle.calls.specs.Done.{wordOf, wordTelling, done, made, ended, kept, telling, given, givenBy, wrote};
 ghost use Rattle.calls.specs.Inner.{Encoded};
 ghost use Rattle.calls.specs.Ends.{begun, peerNewAt, peerStepAt, peerSupplyAt, peerGiveUpAt, serverNewAt, serverStartAt, serverPacketAt, serverResendAt};
-ghost use Rattle.calls.specs.Stateless.{version, unitAt, unitsOf, withoutEnd, readAt, accountsAppendAt, md4At, sha1At, passwordHashAt, desAt, ntResponseAt, authenticatorAt};
+ghost use Rattle.calls.specs.Stateless.{version, unitAt, unitsOf, accountsAppendAt, md4At, sha1At, passwordHashAt, desAt, ntResponseAt, authenticatorAt};
 use answer::Answer;
 use answer::Identifier;
-use packet::End;
-use packet::Framed;
-use packet::Reading;
+use packet::Place;
 use peer::Peer;
 use peer::PeerStep;
 use server::Server;
 use server::ServerStep;
 
 // ---- words and arrays
-fn word(number: u8, n: usize) -> u64
+// The word of an answer: its number and n.
+pub fn word(number: u8, n: usize) -> u64
     ensures { λ r. ⌜ r ≡ wordOf number n ⌝ }
 {
     (number as u64) + (n as u64) % 16777216 * 256
+}
+
+// The same with the place of a text.
+pub fn word_telling(number: u8, n: usize, text: Place) -> u64
+    ensures { λ r. ⌜ r ≡ wordTelling number n text ⌝ }
+{
+    let start = (text.start as u64) % 65536 * 4294967296;
+    let len = (text.len as u64) % 65536 * 281474976710656;
+    (number as u64) + (n as u64) % 16777216 * 256 + (start + len)
 }
 
 fn eight(s: &[u8]) -> [u8; 8]
@@ -68,16 +74,17 @@ fn response(s: &[u8]) -> [u8; 24]
 // The answer's word; the state is written unless the call was refused.
 fn keep_peer(step: PeerStep, state: &mut [u8]) -> u64
     requires { ⌜ length (now state) ≡ peerOctets ⌝ }
-    ensures { λ r. ⌜ Encoded (numberOf (step .answer)) (step .n) (octetsOfPeer (step .peer)) (now (state .entry)) r (now (state .exit)) ⌝ }
+    ensures { λ r. ⌜ Encoded (wordTelling (numberOf (step .answer)) (step .n) (step .text)) (numberOf (step .answer)) (octetsOfPeer (step .peer)) (now (state .entry)) r (now (state .exit)) ⌝ }
 {
     let a = step.answer;
     let k = answer::number(a);
+    let text = step.text;
     if k < 10 {
         let p = step.peer;
         state::encode_peer(p, state);
-        return word(k, step.n);
+        return word_telling(k, step.n, text);
     }
-    word(k, step.n)
+    word_telling(k, step.n, text)
 }
 
 fn begin_peer(state: &mut [u8], name: &[u8], hash: &[u8]) -> u64
@@ -106,7 +113,7 @@ pub fn peer_new(state: &mut [u8], name: &[u8], hash: &[u8]) -> u64
 
 fn step_peer(state: &mut [u8], packet: &[u8], random: &[u8], reply: &mut [u8]) -> u64
     requires { ⌜ (length (now state) ≡ peerOctets) × (length (now random) ≡ 16) ⌝ }
-    ensures { λ r. ⌜ done r (now (state .exit)) (now (reply .exit)) ≡ ended octetsOfPeer (stepOf (peerOf (now (state .entry))) (now (packet .entry)) (now (random .entry)) (length (now (reply .entry)))) (now (state .entry)) (now (reply .entry)) ⌝ }
+    ensures { λ r. ⌜ done r (now (state .exit)) (now (reply .exit)) ≡ telling (stepText (peerOf (now (state .entry))) (now (packet .entry)) (now (random .entry)) (length (now (reply .entry)))) (ended octetsOfPeer (stepOf (peerOf (now (state .entry))) (now (packet .entry)) (now (random .entry)) (length (now (reply .entry)))) (now (state .entry)) (now (reply .entry))) ⌝ }
 {
     let p = state::decode_peer(state);
     let step = p.step(packet, sixteen(random), reply);
@@ -176,7 +183,7 @@ pub fn peer_give_up(state: &mut [u8]) -> u64
 // ---- the server
 fn keep_server(step: ServerStep, state: &mut [u8]) -> u64
     requires { ⌜ length (now state) ≡ serverOctets ⌝ }
-    ensures { λ r. ⌜ Encoded (numberOf (step .answer)) (step .n) (octetsOfServer (step .server)) (now (state .entry)) r (now (state .exit)) ⌝ }
+    ensures { λ r. ⌜ Encoded (wordOf (numberOf (step .answer)) (step .n)) (numberOf (step .answer)) (octetsOfServer (step .server)) (now (state .entry)) r (now (state .exit)) ⌝ }
 {
     let a = step.answer;
     let number = answer::number(a);
@@ -297,52 +304,7 @@ pub fn server_resend(state: &[u8], reply: &mut [u8]) -> u64
 pub fn version() -> u64
     ensures { λ r. ⌜ r ≡ version ⌝ }
 {
-    300
-}
-
-fn read_word(x: Reading) -> u64
-    ensures { λ r. ⌜ r ≡ wordOf (toldReading x .number) 0 ⌝ }
-{
-    match x {
-        Reading::Refused(why) => word(answer::number(Answer::Refused(why)), 0),
-        Reading::Read(k) => word(0, 0),
-    }
-}
-
-fn read_as(end: End, packet: &[u8]) -> u64
-    ensures { λ r. ⌜ r ≡ wordOf (readPacket end (now (packet .entry)) .number) 0 ⌝ }
-{
-    let x = packet::read(end, packet);
-    read_word(x)
-}
-
-fn frame_word(x: Framed) -> u64
-    ensures { λ r. ⌜ r ≡ wordOf (withoutEnd (toldFrame x)) 0 ⌝ }
-{
-    match x {
-        Framed::Refused(why) => word(answer::number(Answer::Refused(why)), 0),
-        Framed::Of(l) => word(23, 0),
-    }
-}
-
-fn read_without_end(packet: &[u8]) -> u64
-    ensures { λ r. ⌜ r ≡ wordOf (withoutEnd (frameOf (now (packet .entry)))) 0 ⌝ }
-{
-    let x = packet::frame(packet);
-    frame_word(x)
-}
-
-// Whether a packet can be read by an end: 0 is the peer, 1 the server. For another end 10 to 12 come before 23.
-pub fn read(end: u8, packet: &[u8]) -> u64
-    ensures { λ r. ⌜ r ≡ readAt end (now (packet .entry)) ⌝ }
-{
-    if end == 0 {
-        return read_as(End::Peer, packet);
-    }
-    if end == 1 {
-        return read_as(End::Server, packet);
-    }
-    read_without_end(packet)
+    400
 }
 
 pub fn accounts_check(table: &[u8]) -> u64

@@ -195,3 +195,28 @@ unfolding number
 number-apart s t h k l f e =
     let g : length t ≤ 10 = omega arith in
     same-digits s t 0 0 h k l (sym (pick-false _ _ _ (le-ltb _ _ f)) ∙ e ∙ pick-false _ _ _ (le-ltb _ _ g)) .1
+
+-- ---- ten digits make no more than 9,999,999,999
+-- the most that j digits more make of m
+mostWith : ℕ → ℕ → ℕ
+mostWith zero m = m
+mostWith (suc j) m = mostWith j (m * 10 + 9)
+
+most-grows : (j m : ℕ) → m ≤ mostWith j m
+unfolding mostWith
+most-grows zero m = omega arith
+most-grows (suc j) m = omega (arith, most-grows j (m * 10 + 9))
+
+number-most : (j m : ℕ) (s : List ℕ) (a : ℕ) → digits s ≡ length s → length s ≤ j → a ≤ m → numberFrom a s ≤ mostWith j m
+unfolding numberFrom mostWith
+number-most zero m [] a h l k = k
+number-most (suc j) m [] a h l k = omega (arith, most-grows j (m * 10 + 9))
+number-most zero m (x ∷ xs) a h l k = absurd (omega arith)
+number-most (suc j) m (x ∷ xs) a h l k =
+    let d = all-digits x xs h in
+    let r = digit-range x (d .0) in
+    number-most j (m * 10 + 9) xs (a * 10 + digitValue x) (d .1) (omega arith) (omega arith)
+
+pub number-few : (s : List ℕ) → digits s ≡ length s → length s ≤ 10 → number s ≤ 9999999999
+unfolding number mostWith
+number-few s h l = rw (pick-false _ _ _ (le-ltb _ _ l)) (number-most 10 0 s 0 h l (omega arith))

@@ -1,5 +1,6 @@
 -- 01, "What a call answers" and "The logger's moves (peer)": what each call of the peer does.
 use Prim.Native.Nat.{ℕ}
+use mathlib.Core.Path.{_≡_}
 use mathlib.Core.List.{List, []}
 use mathlib.Core.Bool.{not}
 use lib.ListN.{length, take, replicate}
@@ -7,17 +8,21 @@ use lib.Dec.{ltb, eqb}
 use Rattle.octets.specs.Choice.{pick}
 use Rattle.octets.specs.Lists.{part, cells}
 use Rattle.octets.specs.Octets.{octetIs, same, unhexAt}
-use Rattle.answer.specs.Outcome.{Told, Outcome, outcome, refused, fitting}
+use Rattle.answer.specs.Answer.{numberOf}
+use Rattle.answer.specs.Outcome.{Told, Outcome, outcome, refused, fitting, Does}
 use Rattle.answer.specs.Sizes.{maxName}
 use Rattle.packet.specs.declared.End.the-variants as end
 use Rattle.packet.specs.declared.Packet.{Packet}
-use Rattle.packet.specs.Reader.{readPacket, challengeIn}
+use Rattle.packet.specs.declared.Place.{Place}
+use Rattle.packet.specs.Reader.{nowhere, readPacket, challengeIn}
+use Rattle.packet.specs.Texts.{textPlace}
 use Rattle.packet.specs.Forms.{successResponse, failureResponse}
 use Rattle.peer.specs.declared.Stage.{Stage}
 use Rattle.peer.specs.declared.Stage.the-variants.{Begin, SuccessResponseSent, FailureResponseSent, Success, Failed}
 use Rattle.peer.specs.declared.Move.{Move}
 use Rattle.peer.specs.declared.Move.the-variants.{NotTaken, WrongIdentifier, Again, Respond, Confirm, Fail, Wait, Succeed, End}
 use Rattle.peer.specs.declared.Peer.{Peer}
+use Rattle.peer.specs.declared.PeerStep.{PeerStep}
 use Rattle.peer.specs.State.{ownName, lastRequest, lastReply, lastId, lastChapId, responseTo, rightDigits, initial, staged, answered, responded, awaiting, supplied}
 use Rattle.peer.specs.Moves.{waiting, turnOf}
 
@@ -115,6 +120,19 @@ movedOf m p k q random room = movedBy (rightDigits p) m p k q random room
 
 unfoldable pub stepOf : Peer → List ℕ → List ℕ → ℕ → Outcome Peer
 stepOf p s random room = stepBy (rightDigits p) p s random room
+
+-- ---- 02 [7]: "the peer's step as start and length (0 and 0 where it refuses or the packet is neither)"
+-- what an answer tells of the text that the reader found: a number from 10 up refuses
+unfoldable pub textBy : ℕ → Place → Place
+textBy number text = pick (ltb number 10) text nowhere
+
+unfoldable pub stepText : Peer → List ℕ → List ℕ → ℕ → Place
+stepText p s random room = textBy (stepOf p s random room .number) (textPlace end.Peer s)
+
+-- a call did what o says, and told a text there. The other calls tell none
+pub record DoesTelling (o : Outcome Peer) (text : Place) (r : PeerStep) (before after : List ℕ) : Type 0 where
+  pub does : Does o (numberOf (r .answer)) (r .n) (r .peer) before after
+  pub told : r .text ≡ text
 
 -- ---- the two calls of WAITING: 19, 23, 20
 -- "a Response to C follows, under the kept request's Identifier and MS-CHAPv2-ID"

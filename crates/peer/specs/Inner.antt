@@ -1,13 +1,18 @@
--- What only this crate's private functions promise each other: of stored names, and of the string that goes into the state.
+-- What only this crate's private functions promise each other: of stored names, of the string that goes into the state, and of the text that is told.
 use Prim.Native.Nat.{ℕ, _≤_}
 use mathlib.Core.Path.{_≡_}
 use mathlib.Core.List.{List}
 use lib.ListN.{length, take, replicate}
+use Rattle.answer.specs.Outcome.{Outcome}
 use Rattle.answer.specs.Sizes.{maxName}
 use Rattle.mschap.specs.Users.{userOf}
+use Rattle.packet.specs.declared.Place.{Place}
 use Rattle.peer.specs.declared.Move.{Move}
 use Rattle.peer.specs.declared.Move.the-variants.{NotTaken, WrongIdentifier, Again, Respond, Confirm, Fail, Wait, Succeed, End}
+use Rattle.peer.specs.declared.Peer.{Peer}
+use Rattle.peer.specs.declared.PeerStep.{PeerStep}
 use Rattle.peer.specs.State.{stringIn}
+use Rattle.peer.specs.Calls.{textBy, DoesTelling}
 
 -- n octets of an array of at most 256 are a name
 pub record Named (octets : List ℕ) (n : ℕ) (name : List ℕ) : Type 0 where
@@ -33,3 +38,7 @@ stringAfter End hash authenticator w = replicate 20 0
 -- the string is right where the move made a Response that was written
 pub record KeptBy (n : ℕ) (m : Move) (string right : List ℕ) : Type 0 where
   pub kept : n ≡ 0 → m ≡ Respond → string ≡ right
+
+-- a step did what o says, and told a text as that answer does
+abbrev pub Stepped : Outcome Peer → Place → PeerStep → List ℕ → List ℕ → Type 0
+Stepped o text r before after = DoesTelling o (textBy (o .number) text) r before after

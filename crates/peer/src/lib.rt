@@ -11,13 +11,14 @@ ghost use Rattle.answer.specs.Outcome.{fitting, refused, Does};
 ghost use Rattle.answer.specs.Sizes.{maxPacket, maxName};
 ghost use Rattle.mschap.specs.Responses.{ntResponse, digitsOf};
 ghost use Rattle.packet.specs.Kinds.{isRequest};
-ghost use Rattle.packet.specs.Reader.{toldReading, challengeIn};
+ghost use Rattle.packet.specs.Reader.{nowhere, toldReading, challengeIn};
+ghost use Rattle.packet.specs.Texts.{textIn, textTold};
 ghost use Rattle.writers.specs.Writers.{sends};
 ghost use Rattle.peer.specs.declared.Move.the-variants.{Respond};
-ghost use Rattle.peer.specs.Inner.{Named, UserIn, stringAfter, KeptBy};
+ghost use Rattle.peer.specs.Inner.{Named, UserIn, stringAfter, KeptBy, Stepped};
 ghost use Rattle.peer.specs.State.{replyRoom, ownName, responseTo, stringTo, stringIn, rightDigits, credentialsOf, initial, atStage, withRequest, withReply, staged, answered, responded, awaiting, supplied};
 ghost use Rattle.peer.specs.Moves.{takes, moveOf, sent, waiting, repeats, misnumbered, turnOf};
-ghost use Rattle.peer.specs.Calls.{newOf, renewedIn, says, confirmation, answerOf, nextOf, leftBy, turnIn, takenBy, readBy, stepOf, resumeOf, supplyOf, giveUpOf};
+ghost use Rattle.peer.specs.Calls.{newOf, renewedIn, says, confirmation, answerOf, nextOf, leftBy, turnIn, takenBy, readBy, stepOf, textBy, stepText, DoesTelling, resumeOf, supplyOf, giveUpOf};
 use answer::Answer;
 use answer::ChapId;
 use answer::Identifier;
@@ -25,6 +26,7 @@ use answer::Refusal;
 use packet::End;
 use packet::Kind;
 use packet::Packet;
+use packet::Place;
 use packet::Reading;
 use packet::is_kind;
 use writers::Written;
@@ -84,6 +86,8 @@ pub struct Peer {
 pub struct PeerStep {
     pub answer: Answer,
     pub n: usize,
+    // where the server's text lies in the packet that was taken; at 0 where none is told
+    pub text: Place,
     pub peer: Peer,
 }
 
@@ -377,6 +381,19 @@ fn answer_to<'a>(
     }
 }
 
+// Where the text of a packet lies, as an answer tells it: a refusal tells none.
+fn text_by(answer: Answer, k: Packet) -> Place
+    ensures { λ r. ⌜ r ≡ textBy (numberOf answer) (textIn k) ⌝ }
+{
+    match answer {
+        Answer::Written => packet::text_in(k),
+        Answer::NeedsCredentials => packet::text_in(k),
+        Answer::Authenticated => packet::text_in(k),
+        Answer::Ended => packet::text_in(k),
+        Answer::Refused(_) => packet::NOWHERE,
+    }
+}
+
 // ---- groups of the state
 fn credentials_of(name: &[u8], hash: [u8; 16]) -> Credentials
     requires { ⌜ length (now name) ≤ maxName ⌝ }
@@ -545,11 +562,12 @@ impl Peer {
     }
 
     fn refuse(self, why: Refusal, reply: &mut [u8]) -> PeerStep
-        ensures { λ r. ⌜ Does (refused (refusalOf why) self) (numberOf (r .answer)) (r .n) (r .peer) (now (reply .entry)) (now (reply .exit)) ⌝ }
+        ensures { λ r. ⌜ DoesTelling (refused (refusalOf why) self) nowhere r (now (reply .entry)) (now (reply .exit)) ⌝ }
     {
         PeerStep {
             answer: Answer::Refused(why),
             n: 0,
+            text: packet::NOWHERE,
             peer: self,
         }
     }
@@ -608,7 +626,7 @@ impl Peer {
     // written and computed: so it is copied once in and once out.
     fn taken(self, k: Packet, q: &[u8], random: [u8; 16], reply: &mut [u8]) -> PeerStep
         requires { ⌜ length (now q) ≤ maxPacket ⌝ }
-        ensures { λ r. ⌜ Does (takenBy (rightDigits self) self k (now (q .entry)) random (length (now (reply .entry)))) (numberOf (r .answer)) (r .n) (r .peer) (now (reply .entry)) (now (reply .exit)) ⌝ }
+        ensures { λ r. ⌜ Stepped (takenBy (rightDigits self) self k (now (q .entry)) random (length (now (reply .entry)))) (textIn k) r (now (reply .entry)) (now (reply .exit)) ⌝ }
     {
         let stage = self.stage;
         let expected = self.challenges.expected;
@@ -620,16 +638,18 @@ impl Peer {
         let answer = w.answer;
         let sent = octets::part(reply, 0, w.n);
         let string = string_after(m, hash, k, q, sent);
+        let text = text_by(answer, k);
         PeerStep {
             answer,
             n: w.n,
+            text,
             peer: self.after(answer, m, k, q, random, string, sent),
         }
     }
 
     fn take_packet(self, k: Packet, s: &[u8], random: [u8; 16], reply: &mut [u8]) -> PeerStep
         requires { ⌜ k .length ≤ maxPacket ⌝ }
-        ensures { λ r. ⌜ Does (takenBy (rightDigits self) self k (take (k .length) (now (s .entry))) random (length (now (reply .entry)))) (numberOf (r .answer)) (r .n) (r .peer) (now (reply .entry)) (now (reply .exit)) ⌝ }
+        ensures { λ r. ⌜ Stepped (takenBy (rightDigits self) self k (take (k .length) (now (s .entry))) random (length (now (reply .entry)))) (textIn k) r (now (reply .entry)) (now (reply .exit)) ⌝ }
     {
         let q = octets::part(s, 0, k.length);
         self.taken(k, q, random, reply)
@@ -637,7 +657,7 @@ impl Peer {
 
     fn take_reading(self, x: Reading, s: &[u8], random: [u8; 16], reply: &mut [u8]) -> PeerStep
         requires { ⌜ toldReading x .value .length ≤ maxPacket ⌝ }
-        ensures { λ r. ⌜ Does (readBy (rightDigits self) (toldReading x) self (now (s .entry)) random (length (now (reply .entry)))) (numberOf (r .answer)) (r .n) (r .peer) (now (reply .entry)) (now (reply .exit)) ⌝ }
+        ensures { λ r. ⌜ Stepped (readBy (rightDigits self) (toldReading x) self (now (s .entry)) random (length (now (reply .entry)))) (textTold (toldReading x)) r (now (reply .entry)) (now (reply .exit)) ⌝ }
     {
         match x {
             Reading::Refused(why) => self.refuse(why, reply),
@@ -646,7 +666,7 @@ impl Peer {
     }
 
     pub fn step(self, packet: &[u8], random: [u8; 16], reply: &mut [u8]) -> PeerStep
-        ensures { λ r. ⌜ Does (stepOf self (now (packet .entry)) random (length (now (reply .entry)))) (numberOf (r .answer)) (r .n) (r .peer) (now (reply .entry)) (now (reply .exit)) ⌝ }
+        ensures { λ r. ⌜ DoesTelling (stepOf self (now (packet .entry)) random (length (now (reply .entry)))) (stepText self (now (packet .entry)) random (length (now (reply .entry)))) r (now (reply .entry)) (now (reply .exit)) ⌝ }
     {
         let x = packet::read(End::Peer, packet);
         self.take_reading(x, packet, random, reply)
@@ -678,7 +698,7 @@ impl Peer {
 
     fn resume(self, name: &[u8], hash: [u8; 16], random: [u8; 16], reply: &mut [u8]) -> PeerStep
         requires { ⌜ length (now name) ≤ maxName ⌝ }
-        ensures { λ r. ⌜ Does (resumeOf self (now (name .entry)) hash random (length (now (reply .entry)))) (numberOf (r .answer)) (r .n) (r .peer) (now (reply .entry)) (now (reply .exit)) ⌝ }
+        ensures { λ r. ⌜ DoesTelling (resumeOf self (now (name .entry)) hash random (length (now (reply .entry)))) nowhere r (now (reply .entry)) (now (reply .exit)) ⌝ }
     {
         let authenticator = self.challenges.authenticator;
         let keys = Keys {
@@ -696,12 +716,13 @@ impl Peer {
         PeerStep {
             answer,
             n: w.n,
+            text: packet::NOWHERE,
             peer: self.resumed(answer, name, hash, random, chapid, string, sent),
         }
     }
 
     pub fn supply(self, name: &[u8], hash: [u8; 16], random: [u8; 16], reply: &mut [u8]) -> PeerStep
-        ensures { λ r. ⌜ Does (supplyOf self (now (name .entry)) hash random (length (now (reply .entry)))) (numberOf (r .answer)) (r .n) (r .peer) (now (reply .entry)) (now (reply .exit)) ⌝ }
+        ensures { λ r. ⌜ DoesTelling (supplyOf self (now (name .entry)) hash random (length (now (reply .entry)))) nowhere r (now (reply .entry)) (now (reply .exit)) ⌝ }
     {
         let stage = self.stage;
         if !is_waiting(stage) {
@@ -714,37 +735,41 @@ impl Peer {
     }
 
     pub fn give_up(self) -> PeerStep
-        ensures { λ r. ⌜ Does (giveUpOf self) (numberOf (r .answer)) (r .n) (r .peer) [] [] ⌝ }
+        ensures { λ r. ⌜ DoesTelling (giveUpOf self) nowhere r [] [] ⌝ }
     {
         let stage = self.stage;
         if !is_waiting(stage) {
             return PeerStep {
                 answer: Answer::Refused(Refusal::NotTaken),
                 n: 0,
+                text: packet::NOWHERE,
                 peer: self,
             };
         }
         PeerStep {
             answer: Answer::Ended,
             n: 0,
+            text: packet::NOWHERE,
             peer: self.staged(Stage::Failed),
         }
     }
 
     // ---- made from name and hash
     pub fn new(name: &[u8], hash: [u8; 16]) -> PeerStep
-        ensures { λ r. ⌜ Does (newOf (now (name .entry)) hash) (numberOf (r .answer)) (r .n) (r .peer) [] [] ⌝ }
+        ensures { λ r. ⌜ DoesTelling (newOf (now (name .entry)) hash) nowhere r [] [] ⌝ }
     {
         if Peer::MAX_NAME < name.len() {
             return PeerStep {
                 answer: Answer::Refused(Refusal::BadArgument),
                 n: 0,
+                text: packet::NOWHERE,
                 peer: Peer::initial(Stage::Failed, &[], [0u8; 16]),
             };
         }
         PeerStep {
             answer: Answer::Written,
             n: 0,
+            text: packet::NOWHERE,
             peer: Peer::initial(Stage::Begin, name, hash),
         }
     }

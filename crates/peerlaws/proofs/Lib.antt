@@ -13,3 +13,4 @@ pub mod ReadBack
 pub mod Retries
 pub mod Rooms
 pub mod Remarks
+pub mod Texts

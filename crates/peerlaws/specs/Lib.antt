@@ -3,3 +3,4 @@ pub mod Exact
 pub mod Promises
 pub mod Expected
 pub mod Remarks
+pub mod Texts

@@ -13,7 +13,9 @@ use Rattle.packet.proofs.Alike.{read-alike, success-messages-apart}
 use Rattle.packet.proofs.LetterCase.{read-alike-but-for-case}
 use Rattle.packet.proofs.Renumbered.{read-renumbered}
 use Rattle.packet.proofs.Back.{written-reads-back, success-reads}
+use Rattle.packet.proofs.Texts.{text-is-told}
 use Rattle.writers.proofs.Trips.{writers-answer, writers-read-back}
+use Rattle.faults.proofs.Exact.{faults-exact}
 use Rattle.accounts.proofs.Tables.{tables-exact, checks-exact}
 use Rattle.accounts.proofs.Lookups.{lookups-exact}
 use Rattle.accounts.proofs.Answers.{found-apart}
@@ -24,6 +26,7 @@ use Rattle.peerlaws.proofs.Promises as peer
 use Rattle.peerlaws.proofs.Promises.{success-only-if-right, no-packet-taken}
 use Rattle.peerlaws.proofs.Earned.{success-earned}
 use Rattle.peerlaws.proofs.Expected.{expected-string, answers-stay}
+use Rattle.peerlaws.proofs.Texts.{step-tells}
 use Rattle.peerlaws.proofs.Consistent.{state-consistent, repeat-rule-reached}
 use Rattle.peerlaws.proofs.Repeats.{repeat-rule}
 use Rattle.peerlaws.proofs.Identifiers.{equality-only}
@@ -51,6 +54,8 @@ use Rattle.calls.proofs.ServerRuns.{server-carried, wrong-guess-at}
 use Rattle.calls.proofs.Answers.{word-back, peer-answers-at, server-answers-at}
 use Rattle.calls.proofs.Stateless.{stateless-answer}
 use Rattle.calls.proofs.Stays.{peer-stays, server-stays, resend-leaves}
+use Rattle.wire.proofs.Answers.{wire-answers}
+use Rattle.wire.proofs.Fields.{reading-told}
 use Rattle.promises.specs.Promises.{Demand1, Demand2, Demand3, Beyond, Requests, Promises}
 
 demand1 : Demand1
@@ -69,6 +74,7 @@ demand1 = record {
   peer-at = peer-answers-at;
   server-at = server-answers-at;
   stateless-at = stateless-answer;
+  wire-at = wire-answers;
   word-back = word-back;
 }
 
@@ -155,6 +161,8 @@ beyond = record {
   fails = fails;
   peer-room = peer-rooms.room-enough;
   server-room = server.room-enough;
+  reading-told = reading-told;
+  faults-exact = faults-exact;
   wrong-ends-shut-out = wrong-ends-shut-out;
   pretends-not = pretends-not;
 }
@@ -167,6 +175,8 @@ requests = record {
   expected-string = expected-string;
   answers-stay = answers-stay;
   answers-stay-at = answers-stay-at;
+  text-told = text-is-told;
+  step-tells = step-tells;
 }
 
 pub promises : Promises

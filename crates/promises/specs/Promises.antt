@@ -8,13 +8,16 @@ use Rattle.des.specs.Keys.{KeysEight, KeysOdd, KeysBack}
 use Rattle.mschap.specs.Promises.{UsersExact, ResponsesSized}
 use Rattle.packet.specs.Promises.{ReaderAnswers, RefusedExactly, ReadExactly, FormedReads, ReadsFormed, PaddingIgnored, ReadingTells, ReadRenumbered}
 use Rattle.packet.specs.Learned.{ReadAlike, ReadAlikeButForCase, WrittenReadsBack, SuccessReads, SuccessMessagesApart}
+use Rattle.packet.specs.Texts.{TextTold}
 use Rattle.writers.specs.Promises.{WritersAnswer, WritersReadBack}
+use Rattle.faults.specs.Promises.{FaultsExact}
 use Rattle.accounts.specs.Promises.{TablesExact, ChecksExact, LookupsExact, FoundApart, AddedFound, AddedHash, AppendsExact, AppendedFormed, AppendedFound, AppendedHash}
 use Rattle.verdict.specs.Promises.{VerdictsExact}
 use Rattle.peerlaws.specs.Exact.{NewExact, StepExact, SupplyExact, GiveUpExact}
 use Rattle.peerlaws.specs.Promises as peer
 use Rattle.peerlaws.specs.Promises.{SuccessOnlyIfRight, SuccessEarned, RepeatRule, RepeatRuleReached, EqualityOnly, NoPacketTaken, RepliesReadBack, AnyChapIdTaken, StateConsistent, RequestKept, RetryAnswersC, RandomOnlyInResponse, RandomOnlyInSupply, AnyTailTaken}
 use Rattle.peerlaws.specs.Expected.{ExpectedString, AnswersStay}
+use Rattle.peerlaws.specs.Texts.{StepTells}
 use Rattle.peerlaws.specs.Remarks.{PretendsNot}
 use Rattle.server.specs.Runs.{ContractAnswers, serverStep}
 use Rattle.server.specs.Effects.{EffectsExact}
@@ -32,6 +35,7 @@ use Rattle.conversation.specs.Premises.{PremisesMet}
 use Rattle.state.specs.Promises.{AnyOctetsStand, PeerBack, ServerBack, PeerOctetsBack, ServerOctetsBack}
 use Rattle.calls.specs.Run.{PeerCarried, AnswersStayAt, ServerCarried, WrongGuessAt}
 use Rattle.calls.specs.Promises.{WordBack, PeerAnswersAt, ServerAnswersAt, PeerStays, ServerStays, ResendLeaves, StatelessAnswer}
+use Rattle.wire.specs.Promises.{WireAnswers, ReadingTold}
 
 -- ---- Demand 1: every call, on every input, gives one answer of the list; a refusal changes no state and no lent octet
 pub record Demand1 : Type 0 where
@@ -55,6 +59,7 @@ pub record Demand1 : Type 0 where
   pub peer-at : PeerAnswersAt
   pub server-at : ServerAnswersAt
   pub stateless-at : StatelessAnswer
+  pub wire-at : WireAnswers
   pub word-back : WordBack
 
 -- ---- Demand 2: packets as the table has them, both ends as their tables say, and what follows
@@ -170,6 +175,9 @@ pub record Beyond : Type 0 where
   -- a reply buffer of `REPLY_ROOM` octets, or of `REQUEST_ROOM`, is enough
   pub peer-room : peer.RoomEnough
   pub server-room : server.RoomEnough
+  -- the octets of a reading at the boundary tell it whole; and what is said to be wrong with a packet is what its refusal is for
+  pub reading-told : ReadingTold
+  pub faults-exact : FaultsExact
   -- "How tight each statement is": the ends that are shut out
   pub wrong-ends-shut-out : WrongEndsShutOut
   pub pretends-not : PretendsNot
@@ -185,6 +193,10 @@ pub record Requests : Type 0 where
   pub expected-string : ExpectedString
   pub answers-stay : AnswersStay
   pub answers-stay-at : AnswersStayAt
+  -- [7]: "where the text after `M=` lies within the packet and hands that part back; it is exactly the rest of the message up to L"; "the peer's step as
+  -- start and length (0 and 0 where it refuses or the packet is neither)". What a step tells at the boundary is `peer-at`
+  pub text-told : TextTold
+  pub step-tells : StepTells
 
 pub record Promises : Type 0 where
   pub demand1 : Demand1

@@ -1,4 +1,4 @@
-use Rattle.calls.proofs.Laws.{encoded-so, encoded-not}
+use Rattle.calls.proofs.Laws.{encoded-so, encoded-not, word-telling-by}
 use borrow.Author.Needs.{needs}
 use Rattle.calls.proofs.keep_peer.Statement.{statement}
 use Rattle.calls.proofs.keep_peer.Tie as tie
@@ -11,6 +11,6 @@ keep-peer-spec =
     (λ c κs. search needs)
     (λ c κs. search needs)
     (λ c. search needs)
-    (λ c. search (needs, encoded-so))
+    (λ c. search (needs, encoded-so, word-telling-by))
     (λ c κs. search needs)
-    (λ c. search (needs, encoded-not)))
+    (λ c. search (needs, encoded-not, word-telling-by)))

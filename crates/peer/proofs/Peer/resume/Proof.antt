@@ -1,4 +1,4 @@
-use mathlib.Core.Path.{_≡_}
+use mathlib.Core.Path.{_≡_, refl}
 use lib.ListN.{length}
 use Rattle.peer.specs.State.{replyRoom}
 use Rattle.peer.proofs.Replies.{resume-so, resume-keeps, cut-short, response-short}
@@ -26,4 +26,4 @@ resume-spec =
       resume-keeps _ _ _ _ _ _ _ _ _ _ _ _ sent (c .before .part .ensures) (c .string-in .ensures) (search (sixteen)),
     ))
     (λ c. search needs)
-    (λ c. search (needs, resume-so)))
+    (λ c. record { does = search (needs, resume-so); told = refl }))

@@ -1,4 +1,4 @@
-use Rattle.answer.proofs.Outcomes.{does}
+use Rattle.peer.proofs.Texts.{tells}
 use Rattle.peer.specs.Calls.{supplyOf}
 use borrow.Author.Needs.{needs}
 use Rattle.peer.proofs.Peer.supply.Statement.{statement}
@@ -12,10 +12,10 @@ supply-spec =
     (λ c κs. search needs)
     (λ c κs. search needs)
     (λ c. search needs)
-    (λ c. search does)
+    (λ c. search tells)
     (λ c κs. search needs)
     (λ c. search needs)
-    (λ c. search does)
+    (λ c. search tells)
     (λ c κs. search needs)
     (λ c. search needs)
-    (λ c. search does))
+    (λ c. search tells))

@@ -1,5 +1,6 @@
-use Rattle.answer.proofs.Outcomes.{does-by}
+use mathlib.Core.Path.{refl}
 use Rattle.peer.proofs.Readings.{front}
+use Rattle.peer.proofs.Texts.{stepped-by}
 use borrow.Author.Needs.{needs}
 use Rattle.peer.proofs.Peer.take_packet.Statement.{statement}
 use Rattle.peer.proofs.Peer.take_packet.Tie as tie
@@ -11,4 +12,4 @@ take-packet-spec =
     (λ c κs. search needs)
     (λ c κs. search (needs, front))
     (λ c. search needs)
-    (λ c. does-by _ _ _ _ _ _ _ (c .before .before .taken .ensures) (cc)))
+    (λ c. stepped-by _ _ _ _ _ _ _ (c .before .before .taken .ensures) (cc) refl))

@@ -1,5 +1,5 @@
-use Rattle.answer.proofs.Outcomes.{does}
-use Rattle.peer.proofs.Readings.{reading-refused, reading-read, reading-within}
+use Rattle.peer.proofs.Readings.{reading-within}
+use Rattle.peer.proofs.Texts.{step-refused, step-read}
 use borrow.Author.Needs.{needs}
 use Rattle.peer.proofs.Peer.take_reading.Statement.{statement}
 use Rattle.peer.proofs.Peer.take_reading.Tie as tie
@@ -13,6 +13,6 @@ take-reading-spec =
     (λ c. search needs)
     (λ c κs. search (needs, reading-within))
     (λ c. search needs)
-    (λ c. search (does, reading-refused))
+    (λ c. search (needs, step-refused))
     (λ c. search needs)
-    (λ c. search (does, reading-read)))
+    (λ c. search (needs, step-read)))

@@ -1,6 +1,6 @@
 use borrow.Author.Needs.{needs}
-use Rattle.calls.proofs.read_as.Statement.{statement}
-use Rattle.calls.proofs.read_as.Tie as tie
+use Rattle.wire.proofs.read_as.Statement.{statement}
+use Rattle.wire.proofs.read_as.Tie as tie
 
 pub read-as-spec : {M : Type 1} → statement M
 read-as-spec =
@@ -8,4 +8,5 @@ read-as-spec =
     (tie.spec
     (λ c κs. search needs)
     (λ c κs. search needs)
+    (λ c. search needs)
     (λ c. cc))

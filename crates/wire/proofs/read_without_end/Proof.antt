@@ -1,6 +1,6 @@
 use borrow.Author.Needs.{needs}
-use Rattle.calls.proofs.read_without_end.Statement.{statement}
-use Rattle.calls.proofs.read_without_end.Tie as tie
+use Rattle.wire.proofs.read_without_end.Statement.{statement}
+use Rattle.wire.proofs.read_without_end.Tie as tie
 
 pub read-without-end-spec : {M : Type 1} → statement M
 read-without-end-spec =

@@ -1,7 +1,7 @@
-use Rattle.calls.proofs.Laws.{frame-refused, frame-of}
+use Rattle.wire.proofs.Laws.{frame-refused, frame-of}
 use borrow.Author.Needs.{needs}
-use Rattle.calls.proofs.frame_word.Statement.{statement}
-use Rattle.calls.proofs.frame_word.Tie as tie
+use Rattle.wire.proofs.frame_word.Statement.{statement}
+use Rattle.wire.proofs.frame_word.Tie as tie
 
 pub frame-word-spec : {M : Type 1} → statement M
 frame-word-spec =
