@@ -60,7 +60,7 @@ pub fn peer_new(state: &mut [u8], name: &[u8], hash: &[u8]) -> Told {
 
 pub fn peer_step(state: &mut [u8], packet: &[u8], random: &[u8], reply: &mut [u8]) -> Told {
     let (state, random) = (sized_mut(state)?, sized(random)?);
-    on_peer(state, |peer| peer.step(packet, random, reply))
+    on_peer(state, |peer| peer.step(packet, random, reply).0)
 }
 
 pub fn peer_supply(

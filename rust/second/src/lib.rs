@@ -5,8 +5,9 @@
 //! (source document 001), states those of [MS-CHAP] (source document 000).
 //!
 //! Every call answers one of the numbers in [`number`] and a count n. The calls of the two ends
-//! answer both as a [`Numbered`]; a stateless call answers `Ok(result)` for number 0 and
-//! `Err(number)` for a refusal, a writer's result being its n.
+//! answer both as a [`Numbered`], the peer's step with the [`Place`] of the server's text; a
+//! stateless call answers `Ok(result)` for number 0 and `Err(number)` for a refusal, a writer's
+//! result being its n.
 
 #![forbid(unsafe_code)]
 
@@ -18,7 +19,7 @@ pub mod packet;
 pub mod peer;
 pub mod server;
 
-pub use packet::{ChapId, End, Identifier, Kind, Packet};
+pub use packet::{ChapId, End, Identifier, Kind, Packet, Place};
 pub use peer::{Peer, PeerStage};
 pub use server::{Server, ServerStage};
 

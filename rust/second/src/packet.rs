@@ -34,6 +34,9 @@ pub enum Kind {
     EapFailure,
 }
 
+/// Start, counted from the packet's first octet, and length of a part of a packet.
+pub type Place = (usize, usize);
+
 /// What was read. Fields that a kind has not are zero.
 #[derive(Clone, PartialEq, Eq, Debug)]
 pub struct Packet {
@@ -47,13 +50,27 @@ pub struct Packet {
     pub code: u64,
     /// The challenge of a Challenge, the peer challenge of a Response, C of a Failure Request.
     pub challenge: Octets16,
+    /// Where it lies, C as its digits.
+    pub challenge_at: Place,
     /// The NT-Response of a Response.
     pub response: NtResponse,
     /// The number after `S=` of a Success Request.
     pub string: AuthenticatorString,
-    /// Start and length of the name (Challenge, Response) or of the text after `M=` (Success and
-    /// Failure Request); at L where a Success message ends with its digits.
-    pub tail: (usize, usize),
+    /// Where the one or the other lies, the number as its digits.
+    pub response_at: Place,
+    /// The name (Challenge, Response) or the text after `M=` (Success and Failure Request); at L
+    /// where a Success message ends with its digits.
+    pub tail: Place,
+}
+
+impl Packet {
+    /// The text after `M=`; 0 and 0 for a packet that has none.
+    pub fn text(&self) -> Place {
+        match self.kind {
+            Kind::SuccessRequest | Kind::FailureRequest | Kind::RetryRequest => self.tail,
+            _ => (0, 0),
+        }
+    }
 }
 
 const HEADER: usize = 4;
@@ -159,8 +176,10 @@ fn blank(kind: Kind, packet: &[u8], chapid: ChapId) -> Packet {
         length: packet.len(),
         code: 0,
         challenge: [0; 16],
+        challenge_at: (0, 0),
         response: [0; 24],
         string: [0; 20],
+        response_at: (0, 0),
         tail: (0, 0),
     }
 }
@@ -175,6 +194,7 @@ fn challenge_form(packet: &[u8]) -> Option<Packet> {
     }
     Some(Packet {
         challenge: octets(packet, 10),
+        challenge_at: (10, 16),
         tail: (CHALLENGE_NAME, packet.len() - CHALLENGE_NAME),
         ..blank(Kind::Challenge, packet, ChapId(packet[6]))
     })
@@ -189,7 +209,9 @@ fn response_form(packet: &[u8]) -> Option<Packet> {
     }
     Some(Packet {
         challenge: octets(packet, 10),
+        challenge_at: (10, 16),
         response: octets(packet, 34),
+        response_at: (34, 24),
         tail: (RESPONSE_NAME, packet.len() - RESPONSE_NAME),
         ..blank(Kind::Response, packet, ChapId(packet[6]))
     })
@@ -205,7 +227,8 @@ fn success_form(packet: &[u8]) -> Option<Packet> {
     }
     Some(Packet {
         string,
-        tail: (packet.len() - text.0.len(), text.0.len()),
+        response_at: (MESSAGE + 2, 40),
+        tail: text.rest_of(packet),
         ..blank(Kind::SuccessRequest, packet, ChapId(packet[6]))
     })
 }
@@ -223,6 +246,7 @@ fn failure_form(packet: &[u8]) -> Option<Packet> {
         _ => return None,
     };
     text.tag(b" C=")?;
+    let (c, _) = text.rest_of(packet);
     let challenge = text.hex(either_digit)?;
     text.tag(b" V=")?;
     if text.decimal()? != 3 {
@@ -232,7 +256,8 @@ fn failure_form(packet: &[u8]) -> Option<Packet> {
     Some(Packet {
         code,
         challenge,
-        tail: (packet.len() - text.0.len(), text.0.len()),
+        challenge_at: (c, 32),
+        tail: text.rest_of(packet),
         ..blank(kind, packet, ChapId(packet[6]))
     })
 }
@@ -241,6 +266,11 @@ fn failure_form(packet: &[u8]) -> Option<Packet> {
 struct Text<'a>(&'a [u8]);
 
 impl Text<'_> {
+    /// Where it lies in its packet.
+    fn rest_of(&self, packet: &[u8]) -> Place {
+        (packet.len() - self.0.len(), self.0.len())
+    }
+
     fn tag(&mut self, tag: &[u8]) -> Option<()> {
         self.0 = self.0.strip_prefix(tag)?;
         Some(())

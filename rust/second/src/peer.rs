@@ -2,7 +2,7 @@
 
 use crate::mschap::{self, AuthenticatorString};
 use crate::number::*;
-use crate::packet::{self, ChapId, End, Identifier, Kind, Packet, MAX_RESPONSE};
+use crate::packet::{self, ChapId, End, Identifier, Kind, Packet, Place, MAX_RESPONSE};
 use crate::{held, hold, numbered, put, Numbered, Octets16, MAX_NAME, MAX_PACKET};
 
 /// The stages of source document 000, and WAITING.
@@ -67,9 +67,12 @@ impl Peer {
         ((REPLY, 0), peer)
     }
 
-    /// Takes a packet. The random octets are used only as the peer challenge of a Response.
-    pub fn step(&mut self, lent: &[u8], random: &Octets16, reply: &mut [u8]) -> Numbered {
-        numbered(self.take(lent, random, reply))
+    /// Takes a packet. The random octets are used only as the peer challenge of a Response. Also
+    /// tells where the server's text lies in the packet: 0 and 0 where the step refuses, or the
+    /// packet is neither a Success nor a Failure Request.
+    pub fn step(&mut self, lent: &[u8], random: &Octets16, reply: &mut [u8]) -> (Numbered, Place) {
+        self.read_and_take(lent, random, reply)
+            .unwrap_or_else(|refusal| ((refusal, 0), (0, 0)))
     }
 
     /// Credentials in WAITING: a Response to C, under the kept request's two numbers.
@@ -109,17 +112,33 @@ impl Peer {
         }
     }
 
-    /// In the order of document 01: 10 to 17, the repeat rule, 19, 18, 20.
-    fn take(&mut self, lent: &[u8], random: &Octets16, reply: &mut [u8]) -> Result<Numbered, u8> {
+    /// 10 to 17, then the packet is taken.
+    fn read_and_take(
+        &mut self,
+        lent: &[u8],
+        random: &Octets16,
+        reply: &mut [u8],
+    ) -> Result<(Numbered, Place), u8> {
         let packet = packet::read(End::Peer, lent)?;
-        let octets = &lent[..packet.length];
-        if self.is_repeat(&packet, octets) {
+        let answer = self.take(&packet, &lent[..packet.length], random, reply)?;
+        Ok((answer, packet.text()))
+    }
+
+    /// In the order of document 01: the repeat rule, 19, 18, 20.
+    fn take(
+        &mut self,
+        packet: &Packet,
+        octets: &[u8],
+        random: &Octets16,
+        reply: &mut [u8],
+    ) -> Result<Numbered, u8> {
+        if self.is_repeat(packet, octets) {
             return put(reply, held(&self.reply, self.reply_len));
         }
         let taken = self.move_for(packet.kind)?;
-        self.check_identifier(&packet)?;
+        self.check_identifier(packet)?;
         match taken {
-            Move::Respond => self.respond(&packet, octets, random, reply),
+            Move::Respond => self.respond(packet, octets, random, reply),
             Move::Verify if packet.string != self.expected => {
                 self.stage = Failed;
                 Ok((ENDED, 0))
@@ -132,7 +151,7 @@ impl Peer {
                 let n = packet::write_failure_response(packet.id, reply)?;
                 Ok(self.sent(FailureResponseSent, octets, &reply[..n]))
             }
-            Move::Wait => Ok(self.wait(&packet, octets)),
+            Move::Wait => Ok(self.wait(packet, octets)),
             Move::End(answer, stage) => {
                 self.stage = stage;
                 Ok(answer)

@@ -76,6 +76,27 @@ fn every_packet_reads() {
     assert_eq!(read, 73);
 }
 
+/// What the servers wrote after `M=`; FreeRADIUS ends a Success message with its digits.
+#[test]
+fn the_text_is_what_was_captured() {
+    let mut texts = Vec::new();
+    for conversation in conversations() {
+        let (_, packet) = &conversation.packets[3];
+        let (start, length) = packet::read(End::Peer, packet).unwrap().text();
+        assert_eq!(start + length, packet.len());
+        texts.push(packet[start..].to_vec());
+    }
+    for (text, times) in [
+        ("OK", 8),
+        ("", 3),
+        ("FAILED", 3),
+        ("Authentication rejected", 1),
+    ] {
+        let found = texts.iter().filter(|found| *found == text.as_bytes());
+        assert_eq!(found.count(), times, "{text}");
+    }
+}
+
 #[test]
 fn the_peer_says_what_was_captured() {
     let mut right = 0;

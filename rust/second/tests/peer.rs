@@ -1,5 +1,5 @@
 //! The peer: every row of its stage table, the whole state after each move, the repeat rule, 18 to
-//! 20 and 23 with their order, the kept string, and states that were handed in.
+//! 20 and 23 with their order, the kept string, the server's text, and states that were handed in.
 
 mod common;
 
@@ -657,4 +657,80 @@ fn the_right_string_of_a_state_handed_in_is_the_kept_one() {
             assert_eq!(stage_after(&with_other_bit(&before.expected, bit)), ended);
         }
     }
+}
+
+/// The number, and where the step says that the text lies.
+fn told(before: &Peer, packet: &[u8], room: usize) -> (u8, Place) {
+    let mut buffer = vec![0; room];
+    let ((number, _), text) = before.clone().step(packet, &RANDOM, &mut buffer);
+    (number, text)
+}
+
+#[test]
+fn the_text_of_an_answered_request() {
+    let sent = made(ChallengeResponseSent);
+    let right = defined_string(&sent);
+    let rows = [
+        (success(8, 9, &right, "Willkommen"), 0, (54, 10)),
+        (success(8, 9, &right, ""), 0, (54, 0)),
+        (success_and(8, 9, &right, ""), 0, (51, 0)),
+        (success(8, 9, &wrong_string(&sent), "Servus"), 3, (54, 6)),
+        (success_and(8, 9, &wrong_string(&sent), ""), 3, (51, 0)),
+        (failure(8, 9, 691, 0, &FRESH, "no"), 0, (60, 2)),
+        (failure(8, 9, 7, 0, &FRESH, " M="), 0, (58, 3)),
+        (failure(8, 9, 691, 1, &FRESH, "once more"), 1, (60, 9)),
+        (failure(8, 9, 9_999_999_999, 1, &FRESH, ""), 1, (67, 0)),
+    ];
+    for (packet, number, text) in rows {
+        assert_eq!(told(&sent, &packet, ROOM), (number, text));
+        let padded = [&packet[..], b" M=padding"].concat();
+        assert_eq!(told(&sent, &padded, ROOM), (number, text));
+        // Without room, where room is asked for; then under the last Identifier, and in BEGIN.
+        let refused = if number == 0 { 20 } else { number };
+        let text = if number == 0 { (0, 0) } else { text };
+        assert_eq!(told(&sent, &packet, 5), (refused, text));
+        let mut same = packet.clone();
+        same[1] = 7;
+        assert_eq!(told(&sent, &same, ROOM), (18, (0, 0)));
+        assert_eq!(told(&fresh(), &packet, ROOM), (19, (0, 0)));
+        assert_eq!(told(&sent, &packet[..packet.len() - 1], ROOM), (11, (0, 0)));
+    }
+}
+
+#[test]
+fn the_text_of_a_request_that_comes_again() {
+    let sent = made(ChallengeResponseSent);
+    let right = defined_string(&sent);
+    let rows = [
+        (success(8, 9, &right, "Willkommen"), (54, 10)),
+        (success_and(8, 9, &right, ""), (51, 0)),
+        (failure(8, 9, 691, 0, &FRESH, "no"), (60, 2)),
+    ];
+    for (packet, text) in rows {
+        let mut peer = sent.clone();
+        assert_eq!(step(&mut peer, &packet).0, 0);
+        assert_eq!(told(&peer, &packet, 6), (0, text));
+        let padded = [&packet[..], b" M=padding"].concat();
+        assert_eq!(told(&peer, &padded, 6), (0, text));
+        assert_eq!(told(&peer, &packet, 5), (20, (0, 0)));
+    }
+    // The Failure Request that a supply has answered.
+    let packet = failure(8, 33, 691, 1, &FRESH, "again");
+    let mut peer = made(Waiting);
+    assert_eq!(told(&peer, &packet, ROOM), (19, (0, 0)));
+    assert_eq!(supply_in(&mut peer, b"n", &HASH, ROOM).0, 0);
+    assert_eq!(told(&peer, &packet, 60), (0, (60, 5)));
+    assert_eq!(told(&peer, &packet, 59), (20, (0, 0)));
+}
+
+#[test]
+fn no_text_of_other_packets() {
+    let sent = made(ChallengeResponseSent);
+    let confirmed = made(SuccessResponseSent);
+    assert_eq!(told(&fresh(), &first_challenge(), ROOM), (0, (0, 0)));
+    assert_eq!(told(&sent, &first_challenge(), ROOM), (0, (0, 0)));
+    assert_eq!(told(&sent, &eap(4, 7), ROOM), (3, (0, 0)));
+    assert_eq!(told(&confirmed, &eap(3, 8), ROOM), (2, (0, 0)));
+    assert_eq!(told(&confirmed, &eap(4, 8), ROOM), (3, (0, 0)));
+    assert_eq!(told(&confirmed, &eap(3, 7), ROOM), (18, (0, 0)));
 }

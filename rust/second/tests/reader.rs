@@ -141,8 +141,10 @@ fn challenge_edges() {
         length: 27,
         code: 0,
         challenge: AUTHENTICATOR,
+        challenge_at: (10, 16),
         response: [0; 24],
         string: [0; 20],
+        response_at: (0, 0),
         tail: (26, 1),
     };
     assert_eq!(read, expected);
@@ -166,8 +168,10 @@ fn response_edges() {
         length: 62,
         code: 0,
         challenge: RANDOM,
+        challenge_at: (10, 16),
         response: nt,
         string: [0; 20],
+        response_at: (34, 24),
         tail: (59, 3),
     };
     assert_eq!(server(&packet).unwrap(), expected);
@@ -202,8 +206,10 @@ fn success_read(string: [u8; 20], length: usize) -> Packet {
         length,
         code: 0,
         challenge: [0; 16],
+        challenge_at: (0, 0),
         response: [0; 24],
         string,
+        response_at: (11, 40),
         tail: (length, 0),
     }
 }
@@ -294,8 +300,10 @@ fn failure_request_edges() {
         length: 60,
         code: 691,
         challenge: c,
+        challenge_at: (21, 32),
         response: [0; 24],
         string: [0; 20],
+        response_at: (0, 0),
         tail: (60, 0),
     };
     assert_eq!(packet, expected);
@@ -303,6 +311,7 @@ fn failure_request_edges() {
     let expected = Packet {
         kind: Kind::RetryRequest,
         length: 74,
+        challenge_at: (22, 32),
         tail: (70, 4),
         ..expected
     };
@@ -351,6 +360,67 @@ fn failure_requests_that_break_their_form() {
     let whole = format!("E=691 R=0 C={C} V=3 M=");
     for end in 0..whole.len() {
         assert_eq!(failure_text(&whole[..end]), Err(17));
+    }
+}
+
+/// The text's place, and what stands there.
+fn text(packet: &[u8]) -> (Place, Vec<u8>) {
+    let (start, length) = peer(packet).unwrap().text();
+    ((start, length), packet[start..start + length].to_vec())
+}
+
+#[test]
+fn texts_of_success_requests() {
+    let mut random = Random(5);
+    for length in 0..=966 {
+        let text_octets = random.octets(length);
+        let message = [&success(7, 8, &[0x5a; 20], "")[9..], &text_octets].concat();
+        let packet = long(1, 7, 3, 8, &message);
+        let told = ((54, length), text_octets);
+        assert_eq!(text(&packet), told);
+        let padded = [&packet[..], b" M=padding"].concat();
+        assert_eq!(text(&padded), told);
+    }
+    let bare = success_and(7, 8, &[0x5a; 20], "");
+    assert_eq!(text(&bare), ((51, 0), vec![]));
+    assert_eq!(text(&[&bare[..], b" M=padding"].concat()).0, (51, 0));
+    // The first ` M=` is the tag: another one is text.
+    let twice = success(7, 8, &[0x5a; 20], " M= M=");
+    assert_eq!(text(&twice), ((54, 6), b" M= M=".to_vec()));
+}
+
+#[test]
+fn texts_of_failure_requests() {
+    let mut random = Random(6);
+    let codes = (1..=10).flat_map(|digits| ["9".repeat(digits), format!("{:0digits$}", 7)]);
+    for (code, r) in codes.zip([0, 1].into_iter().cycle()) {
+        let head = format!("E={code} R={r} C={C} V=3 M=");
+        let start = 9 + head.len();
+        for length in (0..10).chain(1020 - start - 2..=1020 - start) {
+            let text_octets = random.octets(length);
+            let message = [head.as_bytes(), &text_octets].concat();
+            let packet = long(1, 7, 4, 8, &message);
+            assert_eq!(text(&packet), ((start, length), text_octets));
+            let read = peer(&packet).unwrap();
+            assert_eq!(read.code, code.parse().unwrap());
+            let (c, digits) = read.challenge_at;
+            assert_eq!(&packet[c..c + digits], C.as_bytes());
+        }
+    }
+}
+
+#[test]
+fn no_text_elsewhere() {
+    let texts = [
+        peer(&challenge(7, 8, &AUTHENTICATOR, b" M=name")),
+        server(&response(7, 8, &RANDOM, &[1; 24], b" M=name")),
+        server(&short(2, 7, 3)),
+        server(&short(2, 7, 4)),
+        peer(&eap(3, 7)),
+        peer(&eap(4, 7)),
+    ];
+    for read in texts {
+        assert_eq!(read.unwrap().text(), (0, 0));
     }
 }
 

@@ -120,7 +120,7 @@ impl Login {
         );
         for turn in 0.. {
             let random = counted_up(&self.random, turn);
-            let mut done = peer.step(&packet[..n], &random, &mut reply);
+            let (mut done, _) = peer.step(&packet[..n], &random, &mut reply);
             let mut m = tell(&mut all, "peer", done, &peer.stage, "server", &reply);
             if done.0 == number::NEEDS_CREDENTIALS {
                 done = peer.supply(name, &hash, &random, &mut reply);

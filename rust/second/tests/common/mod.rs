@@ -153,9 +153,24 @@ fn written((number, n): Numbered, unchanged: bool, buffer: &[u8]) -> Answer {
     (number, buffer[..n].to_vec())
 }
 
+/// Where the text lies: after the first ` M=` of a Success or Failure Request, or at its end.
+pub fn text_of(packet: &[u8]) -> Place {
+    let [1, _, high, low, 26, 3 | 4, ..] = *packet else {
+        return (0, 0);
+    };
+    let length = usize::from(u16::from_be_bytes([high, low]));
+    let mut threes = packet[9..length].windows(3);
+    let tag = threes.position(|octets| octets == b" M=");
+    let start = tag.map_or(length, |at| 9 + at + 3);
+    (start, length - start)
+}
+
+/// The text's place is checked too: 0 and 0 at a refusal.
 pub fn step_in(peer: &mut Peer, packet: &[u8], random: &Octets16, room: usize) -> Answer {
     let (before, mut buffer) = (peer.clone(), vec![PATTERN; room]);
-    let answer = peer.step(packet, random, &mut buffer);
+    let (answer, text) = peer.step(packet, random, &mut buffer);
+    let refused = answer.0 >= 10;
+    assert_eq!(text, if refused { (0, 0) } else { text_of(packet) });
     written(answer, *peer == before, &buffer)
 }
 
