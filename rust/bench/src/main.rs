@@ -3,7 +3,7 @@
 //!
 //! Both have the same work: the same octets in and out, states decoded and encoded, the account
 //! that is looked for at the end of the table, so that both walk all of it, names of one length,
-//! so that both compare them whole, and the whole reading of a packet kept.
+//! so that both compare them whole, and the whole reading of a packet written as octets.
 
 mod openssl;
 mod rows;

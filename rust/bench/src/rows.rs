@@ -2,14 +2,14 @@
 
 use std::hint::black_box;
 
+use compare::boundary as second;
+use compare::boundary::Told;
 use compare::call::{by_archive, by_second, Call};
-use compare::layout::{peer_of, PEER, SERVER};
+use compare::layout::{peer_of, PEER, READING, SERVER};
 use compare::packets::{
     account, bare_success, challenge, eap, failure, response, short, success, Exchange,
 };
-use second::packet::End;
-use second::Octets16;
-use zirgumtak::raw;
+use zirgumtak::{raw, Octets16};
 
 use crate::timing::in_turn;
 
@@ -25,6 +25,7 @@ const THEIRS: Octets16 = [0x5b; 16];
 const HASH: Octets16 = [0x44; 16];
 const FRESH: Octets16 = [0x66; 16];
 const ID: u8 = 7;
+const TEXT: &[u8] = b"This account is disabled: ask the office.";
 
 /// Times every row and shows it.
 pub fn each(batches: usize, mut show: impl FnMut(&Row)) {
@@ -38,6 +39,7 @@ pub fn each(batches: usize, mut show: impl FnMut(&Row)) {
     rows.judged_responses();
     rows.peer_step();
     rows.readings();
+    rows.writers();
 }
 
 struct Rows<'s> {
@@ -119,6 +121,7 @@ impl Rows<'_> {
         self.peer_step_on_a_struct(call, &state, &packet);
         made_alike(call, &mut state, &mut [0; 400]);
         self.success_taken(&state);
+        self.failure_taken(&state);
     }
 
     /// The server's string, to the Response that the state keeps.
@@ -135,6 +138,16 @@ impl Rows<'_> {
             random: &OWN,
         };
         self.on_state("peer step that takes a Success Request", call, state);
+    }
+
+    fn failure_taken(&mut self, state: &[u8]) {
+        let packet = failure(ID + 1, ID + 1, 647, 0, &FRESH, TEXT);
+        let call = Call::PeerStep {
+            packet: &packet,
+            random: &OWN,
+        };
+        let name = "peer step that takes a Failure Request with a text";
+        self.on_state(name, call, state);
     }
 
     /// The other without octets: on a copy of its own struct.
@@ -157,7 +170,6 @@ impl Rows<'_> {
         self.row("the same, the other on its own struct", times);
     }
 
-    /// The functions alone, since reading is short.
     fn readings(&mut self) {
         let packets = [
             ("a Challenge", 0, challenge(ID, ID, &THEIRS, b"server")),
@@ -173,28 +185,108 @@ impl Rows<'_> {
                 bare_success(ID, ID, &[0x40; 20]),
             ),
             ("a Failure Request", 0, failure(ID, ID, 691, 1, &FRESH, b"")),
+            (
+                "a Failure Request with a text",
+                0,
+                failure(ID, ID, 647, 0, &FRESH, TEXT),
+            ),
             ("a Success Response", 1, short(2, ID, 3)),
             ("a Failure Response", 1, short(2, ID, 4)),
             ("EAP Success", 0, eap(3, ID)),
             ("EAP Failure", 0, eap(4, ID)),
         ];
         for (name, end, packet) in &packets {
-            made_alike(Call::Read { end: *end, packet }, &mut [], &mut []);
-            let other_end = [End::Peer, End::Server][usize::from(*end)];
-            let times = in_turn(
-                self.batches,
-                || {
-                    black_box(raw::read(black_box(*end), black_box(packet)));
-                },
-                || {
-                    _ = black_box(second::packet::read(
-                        black_box(other_end),
-                        black_box(packet),
-                    ));
-                },
+            self.alone(
+                &format!("reading {name}"),
+                Call::Read { end: *end, packet },
+                READING,
+                |out| raw::read(black_box(*end), black_box(packet), out),
+                |out| second::read(black_box(*end), black_box(packet), out),
             );
-            self.row(&format!("reading {name}"), times);
         }
+    }
+
+    fn writers(&mut self) {
+        let (id, chapid, challenge, name) = black_box((ID, ID, &THEIRS, b"server"));
+        self.alone(
+            "writing a Challenge",
+            Call::WriteChallenge {
+                id,
+                chapid,
+                challenge,
+                name,
+            },
+            400,
+            |out| raw::write_challenge(id, chapid, challenge, name, out),
+            |out| second::write_challenge(id, chapid, challenge, name, out),
+        );
+        self.success_written();
+        self.failure_written();
+        self.alone(
+            "writing EAP Success",
+            Call::WriteEapSuccess { id },
+            400,
+            |out| raw::write_eap_success(id, out),
+            |out| second::write_eap_success(id, out),
+        );
+    }
+
+    fn success_written(&mut self) {
+        let (id, chapid, string, text) = black_box((ID, ID, &[0x40; 20], TEXT));
+        self.alone(
+            "writing a Success Request with a text",
+            Call::WriteSuccessRequest {
+                id,
+                chapid,
+                string,
+                text,
+            },
+            400,
+            |out| raw::write_success_request(id, chapid, string, text, out),
+            |out| second::write_success_request(id, chapid, string, text, out),
+        );
+    }
+
+    fn failure_written(&mut self) {
+        let (id, chapid, challenge, text) = black_box((ID, ID, &FRESH, TEXT));
+        let (code, retry) = black_box((647, 0));
+        self.alone(
+            "writing a Failure Request with a text",
+            Call::WriteFailureRequest {
+                id,
+                chapid,
+                code,
+                retry,
+                challenge,
+                text,
+            },
+            400,
+            |out| raw::write_failure_request(id, chapid, code, retry, challenge, text, out),
+            |out| second::write_failure_request(id, chapid, code, retry, challenge, text, out),
+        );
+    }
+
+    /// The call's functions themselves, without the choice among all calls, since they are short.
+    fn alone(
+        &mut self,
+        name: &str,
+        call: Call,
+        size: usize,
+        ours: impl Fn(&mut [u8]) -> u64,
+        other: impl Fn(&mut [u8]) -> Told,
+    ) {
+        let (mut ours_room, mut other_room) = (vec![0; size], vec![0; size]);
+        made_alike(call, &mut [], &mut ours_room);
+        let times = in_turn(
+            self.batches,
+            || {
+                black_box(ours(black_box(&mut ours_room)));
+            },
+            || {
+                black_box(second::word(other(black_box(&mut other_room))));
+            },
+        );
+        self.row(name, times);
     }
 
     fn stateless(&mut self, name: &str, call: Call, result: usize) {

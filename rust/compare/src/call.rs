@@ -1,4 +1,5 @@
-//! A call of the boundary: its arguments, but for the state and the buffer that it writes.
+//! A call of the boundary: its arguments, but for the state and the buffer that it writes (a reading's
+//! octets, a writer's packet).
 
 use zirgumtak::raw;
 
@@ -72,13 +73,52 @@ pub enum Call<'a> {
         authenticator_challenge: &'a [u8],
         user: &'a [u8],
     },
+    WriteChallenge {
+        id: u8,
+        chapid: u8,
+        challenge: &'a [u8],
+        name: &'a [u8],
+    },
+    WriteResponse {
+        id: u8,
+        chapid: u8,
+        peer_challenge: &'a [u8],
+        nt_response: &'a [u8],
+        name: &'a [u8],
+    },
+    WriteSuccessRequest {
+        id: u8,
+        chapid: u8,
+        string: &'a [u8],
+        text: &'a [u8],
+    },
+    WriteFailureRequest {
+        id: u8,
+        chapid: u8,
+        code: u64,
+        retry: u64,
+        challenge: &'a [u8],
+        text: &'a [u8],
+    },
+    WriteSuccessResponse {
+        id: u8,
+    },
+    WriteFailureResponse {
+        id: u8,
+    },
+    WriteEapSuccess {
+        id: u8,
+    },
+    WriteEapFailure {
+        id: u8,
+    },
 }
 
 use Call::*;
 
 /// Each function and every number that it can answer (document 01, "What a call answers", and the
 /// boundary's own rule for sizes).
-pub const ANSWERS: [(&str, &[u8]); 17] = [
+pub const ANSWERS: [(&str, &[u8]); 25] = [
     ("zt_peer_new", &[0, 23]),
     (
         "zt_peer_step",
@@ -104,6 +144,14 @@ pub const ANSWERS: [(&str, &[u8]); 17] = [
     ("zt_des", &[0, 23]),
     ("zt_nt_response", &[0, 23]),
     ("zt_authenticator", &[0, 23]),
+    ("zt_write_challenge", &[0, 20, 23]),
+    ("zt_write_response", &[0, 20, 23]),
+    ("zt_write_success_request", &[0, 20, 23]),
+    ("zt_write_failure_request", &[0, 20, 23]),
+    ("zt_write_success_response", &[0, 20]),
+    ("zt_write_failure_response", &[0, 20]),
+    ("zt_write_eap_success", &[0, 20]),
+    ("zt_write_eap_failure", &[0, 20]),
 ];
 
 /// The call made by a module that has all of the functions.
@@ -129,7 +177,7 @@ macro_rules! made_by {
                 fresh,
             } => $module::server_packet($state, packet, table, fresh, $out),
             ServerResend => $module::server_resend($state, $out),
-            Read { end, packet } => $module::read(end, packet),
+            Read { end, packet } => $module::read(end, packet, $out),
             AccountsCheck { table } => $module::accounts_check(table),
             AccountsAppend {
                 used,
@@ -154,6 +202,37 @@ macro_rules! made_by {
                 authenticator_challenge: theirs,
                 user,
             } => $module::authenticator(hash, nt_response, own, theirs, user, $out),
+            WriteChallenge {
+                id,
+                chapid,
+                challenge,
+                name,
+            } => $module::write_challenge(id, chapid, challenge, name, $out),
+            WriteResponse {
+                id,
+                chapid,
+                peer_challenge: own,
+                nt_response: nt,
+                name,
+            } => $module::write_response(id, chapid, own, nt, name, $out),
+            WriteSuccessRequest {
+                id,
+                chapid,
+                string,
+                text,
+            } => $module::write_success_request(id, chapid, string, text, $out),
+            WriteFailureRequest {
+                id,
+                chapid,
+                code,
+                retry,
+                challenge: c,
+                text,
+            } => $module::write_failure_request(id, chapid, code, retry, c, text, $out),
+            WriteSuccessResponse { id } => $module::write_success_response(id, $out),
+            WriteFailureResponse { id } => $module::write_failure_response(id, $out),
+            WriteEapSuccess { id } => $module::write_eap_success(id, $out),
+            WriteEapFailure { id } => $module::write_eap_failure(id, $out),
         }
     };
 }
@@ -179,6 +258,14 @@ impl Call<'_> {
             Des { .. } => 14,
             NtResponse { .. } => 15,
             Authenticator { .. } => 16,
+            WriteChallenge { .. } => 17,
+            WriteResponse { .. } => 18,
+            WriteSuccessRequest { .. } => 19,
+            WriteFailureRequest { .. } => 20,
+            WriteSuccessResponse { .. } => 21,
+            WriteFailureResponse { .. } => 22,
+            WriteEapSuccess { .. } => 23,
+            WriteEapFailure { .. } => 24,
         }
     }
 }

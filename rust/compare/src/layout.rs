@@ -1,9 +1,10 @@
-//! The second program's states as octets: the layouts of `zirgumtak.h`.
+//! The second program's states and readings as octets: the layouts of `zirgumtak.h`.
 
-use second::{ChapId, Identifier, Peer, PeerStage, Server, ServerStage};
+use second::{ChapId, Identifier, Packet, Peer, PeerStage, Place, Server, ServerStage};
 
 pub const PEER: usize = 1667;
 pub const SERVER: usize = 304;
+pub const READING: usize = 25;
 
 /// Where the fields begin that tests write to.
 pub mod at {
@@ -102,6 +103,46 @@ pub fn put_server(server: &Server, octets: &mut [u8; SERVER]) {
     assert!(room.0.is_empty());
 }
 
+/// The kinds have the header's order.
+pub fn put_reading(packet: &Packet, octets: &mut [u8; READING]) {
+    let mut room = Room(octets);
+    room.put(&[packet.kind as u8, packet.id.0, packet.chapid.0]);
+    room.put(&(packet.length as u16).to_le_bytes());
+    room.put(&packet.code.to_le_bytes());
+    for (start, length) in [packet.challenge_at, packet.response_at, packet.tail] {
+        room.put(&(start as u16).to_le_bytes());
+        room.put(&(length as u16).to_le_bytes());
+    }
+    assert!(room.0.is_empty());
+}
+
+/// What a reading's octets say.
+#[derive(Clone, Copy, PartialEq, Eq, Debug)]
+pub struct Reading {
+    pub kind: u8,
+    pub id: u8,
+    pub chapid: u8,
+    pub length: u16,
+    pub code: u64,
+    /// The challenge, the NT-Response or string, the name or text.
+    pub places: [Place; 3],
+}
+
+pub fn reading_of(octets: &[u8; READING]) -> Reading {
+    let mut fields = Fields(octets);
+    let [kind, id, chapid] = fields.array();
+    let (length, code) = (fields.length(), u64::from_le_bytes(fields.array()));
+    let places = [(); 3].map(|()| (fields.length().into(), fields.length().into()));
+    Reading {
+        kind,
+        id,
+        chapid,
+        length,
+        code,
+        places,
+    }
+}
+
 /// The last stage of both ends is FAILED.
 fn stage_of<T: Copy>(stages: &[T], octet: u8) -> T {
     stages[usize::from(octet).min(stages.len() - 1)]
@@ -144,6 +185,8 @@ impl Room<'_> {
 
 #[cfg(test)]
 mod tests {
+    use second::Kind;
+
     use super::*;
     use crate::random::Random;
 
@@ -172,6 +215,52 @@ mod tests {
         assert_eq!(server.request_len.to_le_bytes(), octets[4..6]);
         assert_eq!(server.challenge, octets[6..22]);
         assert_eq!(server.request, octets[22..304]);
+    }
+
+    /// The offsets and kinds of `zirgumtak.h`.
+    #[test]
+    fn readings_stand_where_the_header_says() {
+        let kinds = [
+            Kind::Challenge,
+            Kind::Response,
+            Kind::SuccessRequest,
+            Kind::FailureRequest,
+            Kind::RetryRequest,
+            Kind::SuccessResponse,
+            Kind::FailureResponse,
+            Kind::EapSuccess,
+            Kind::EapFailure,
+        ];
+        for (octet, kind) in (0..).zip(kinds) {
+            let packet = Packet {
+                kind,
+                id: Identifier(0x11),
+                chapid: ChapId(0x22),
+                length: 0x0304,
+                code: 0x0807_0605_0403_0201,
+                challenge: [0xff; 16],
+                challenge_at: (0x0102, 0x0304),
+                response: [0xff; 24],
+                string: [0xff; 20],
+                response_at: (0x0506, 0x0708),
+                tail: (0x090a, 0x0b0c),
+            };
+            let mut octets = [0; READING];
+            put_reading(&packet, &mut octets);
+            assert_eq!(octets[..5], [octet, 0x11, 0x22, 4, 3]);
+            assert_eq!(octets[5..13], [1, 2, 3, 4, 5, 6, 7, 8]);
+            assert_eq!(octets[13..21], [2, 1, 4, 3, 6, 5, 8, 7]);
+            assert_eq!(octets[21..], [0x0a, 9, 0x0c, 0x0b]);
+            let reading = Reading {
+                kind: octet,
+                id: 0x11,
+                chapid: 0x22,
+                length: 0x0304,
+                code: packet.code,
+                places: [packet.challenge_at, packet.response_at, packet.tail],
+            };
+            assert_eq!(reading_of(&octets), reading);
+        }
     }
 
     /// Only a stage that is none comes back as another octet.

@@ -71,7 +71,7 @@ fn report(pair: &Pair) -> Result<(), String> {
         let numbers = numbers
             .iter()
             .map(|(number, count)| format!("{number}: {count}"));
-        println!("{function:<18} {}", numbers.collect::<Vec<_>>().join(", "));
+        println!("{function:<25} {}", numbers.collect::<Vec<_>>().join(", "));
     }
     let missing = pair.not_seen();
     if missing.is_empty() {

@@ -1,6 +1,6 @@
 //! Packets and tables put together from their parts, well formed and not.
 
-use second::{mschap, Octets16, Peer};
+use second::{mschap, Octets16, Peer, Place};
 
 use crate::random::Random;
 
@@ -65,6 +65,19 @@ pub fn short(code: u8, id: u8, op: u8) -> Vec<u8> {
 
 pub fn eap(code: u8, id: u8) -> Vec<u8> {
     vec![code, id, 0, 4]
+}
+
+/// Where the text lies in a packet that can be read: after the first ` M=` of a Success or Failure
+/// Request, or at its end.
+pub fn text_in(packet: &[u8]) -> Place {
+    let [1, _, high, low, _, 3 | 4, ..] = *packet else {
+        return (0, 0);
+    };
+    let length = usize::from(u16::from_be_bytes([high, low]));
+    let mut threes = packet[9..length].windows(3);
+    let tag = threes.position(|octets| octets == b" M=");
+    let start = tag.map_or(length, |at| 9 + at + 3);
+    (start, length - start)
 }
 
 pub fn upper_hex(octets: &[u8]) -> String {

@@ -2,13 +2,29 @@
 
 use std::fmt;
 
-use crate::call::{by_archive, by_second, Call, ANSWERS};
+use second::Place;
 
-/// The number and n of a call on which both agree.
+use crate::call::{by_archive, by_second, Call, ANSWERS};
+use crate::packets::text_in;
+
+/// What a call answers, on which both agree.
 #[derive(Clone, Copy, PartialEq, Eq, Debug)]
 pub struct Answer {
     pub number: u8,
     pub n: usize,
+    /// Where the server's text lies, 0 and 0 where none is told.
+    pub text: Place,
+}
+
+impl Answer {
+    /// That number, and zeros.
+    pub const fn bare(number: u8) -> Answer {
+        Answer {
+            number,
+            n: 0,
+            text: (0, 0),
+        }
+    }
 }
 
 /// A call, what it was made on, and what came of it.
@@ -186,9 +202,11 @@ impl Side {
     }
 
     fn answer(&self) -> Answer {
+        let word = self.word as usize;
         Answer {
             number: self.word as u8,
-            n: (self.word >> 8) as usize,
+            n: word >> 8 & 0xff_ffff,
+            text: (word >> 32 & 0xffff, word >> 48),
         }
     }
 
@@ -201,33 +219,50 @@ impl Side {
         buffer: &[u8],
     ) -> Option<&'static str> {
         let refused = answer.number >= 10;
-        let writes_packets = matches!(
+        let fills_buffer = matches!(
             call,
-            Call::PeerStep { .. }
-                | Call::PeerSupply { .. }
-                | Call::ServerStart { .. }
-                | Call::ServerPacket { .. }
-                | Call::ServerResend
-                | Call::AccountsAppend { .. }
+            Call::Read { .. }
+                | Call::Md4 { .. }
+                | Call::Sha1 { .. }
+                | Call::PasswordHash { .. }
+                | Call::Des { .. }
+                | Call::NtResponse { .. }
+                | Call::Authenticator { .. }
         );
         let reads_state = matches!(call, Call::ServerResend);
         let made = matches!(call, Call::PeerNew { .. });
         if refused && !made && (answer.n, self.state(), self.buffer()) != (0, state, buffer) {
             Some("both wrote at a refusal")
-        } else if writes_packets && self.buffer()[answer.n..] != buffer[answer.n..] {
+        } else if !fills_buffer && self.buffer()[answer.n..] != buffer[answer.n..] {
             Some("both wrote after the packet")
         } else if reads_state && self.state() != state {
             Some("both wrote a state that is only read")
+        } else if answer.text != text_due(call, answer) {
+            Some("both told another text")
         } else {
             None
         }
     }
 }
 
+/// Where the text lies in a packet that was read; other calls and refusals tell none.
+fn text_due(call: &Call, answer: Answer) -> Place {
+    match call {
+        Call::PeerStep { packet, .. } | Call::Read { packet, .. } if answer.number < 10 => {
+            text_in(packet)
+        }
+        _ => (0, 0),
+    }
+}
+
 impl fmt::Display for Side {
     fn fmt(&self, out: &mut fmt::Formatter<'_>) -> fmt::Result {
-        let Answer { number, n } = self.answer();
-        write!(out, "answers {number}, n = {n} (word {:016x})", self.word)?;
+        let Answer { number, n, text } = self.answer();
+        write!(
+            out,
+            "answers {number}, n = {n}, text at {text:?} (word {:016x})",
+            self.word
+        )?;
         write!(out, "\n  state    {}", hex(self.state()))?;
         write!(out, "\n  buffer   {}", hex(self.buffer()))?;
         let mut guards = self.memory.clone();

@@ -137,6 +137,12 @@ pub(crate) fn answer_of(word: u64, buffer: &[u8]) -> Result<Answer<'_>, Refusal>
     }
 }
 
+/// The part of a packet that the archive's word tells as the server's text, which never starts at 0.
+pub(crate) fn text_of(word: u64, packet: &[u8]) -> Option<&[u8]> {
+    let (start, length) = (word >> 32 & 0xffff, word >> 48);
+    (start > 0).then(|| &packet[start as usize..][..length as usize])
+}
+
 /// The word of a call that writes no packet.
 pub(crate) fn done_of(word: u64) -> Result<(), Refusal> {
     answer_of(word, &[]).map(|_| ())

@@ -29,7 +29,7 @@
 //!     }
 //!     assert_eq!(request, Answer::Authenticated(&[3, 8, 0, 4]));
 //!     let last = peer.step(request.packet(), &random, &mut to_server)?;
-//!     assert_eq!(last, Answer::Authenticated(&[]));
+//!     assert_eq!(last.answer, Answer::Authenticated(&[]));
 //!     Ok(())
 //! }
 //! ```
@@ -43,9 +43,9 @@
 //!
 //! # Versions
 //!
-//! Numbers may come to answers, refusals, stages and account codes, so a `match` of them needs a
-//! last arm for all others. The archive is to have this crate's version ([`version`]): a number
-//! that this crate does not know is a panic.
+//! Numbers may come to answers, refusals, stages, account codes and kinds of packets, so a `match`
+//! of them needs a last arm for all others. The archive is to have this crate's version
+//! ([`version`]): a number that this crate does not know is a panic.
 //!
 //! # Features
 //!
@@ -67,17 +67,24 @@ pub mod raw;
 /// ```
 #[cfg(not(feature = "raw"))]
 mod raw;
+mod reading;
 mod server;
 mod stateless;
 mod table;
 mod wiped;
+mod writers;
 
 pub use answer::{Answer, Refusal};
 pub use password::PasswordHash;
-pub use peer::{Peer, PeerStage};
+pub use peer::{Peer, PeerStage, Step};
+pub use reading::{read, ChapId, End, Packet, Reading};
 pub use server::{Server, ServerStage};
-pub use stateless::{authenticator, des, md4, nt_response, read, sha1, version, End};
+pub use stateless::{authenticator, des, md4, nt_response, sha1, version};
 pub use table::{accounts_check, AccountCode, TableBuilder};
+pub use writers::{
+    write_challenge, write_eap_failure, write_eap_success, write_failure_request,
+    write_failure_response, write_response, write_success_request, write_success_response,
+};
 
 /// Hashes, challenges and random octets have 16 octets.
 pub type Octets16 = [u8; 16];

@@ -2,7 +2,7 @@
 
 use core::fmt;
 
-use crate::answer::{answer_of, done_of, Answer, Refusal};
+use crate::answer::{answer_of, done_of, text_of, Answer, Refusal};
 use crate::wiped::Wiped;
 use crate::{raw, Octets16, PasswordHash};
 
@@ -24,6 +24,40 @@ pub enum PeerStage {
     Success,
     /// Ended without.
     Failed,
+}
+
+/// What a step of a peer answers, and the text that the server sent.
+///
+/// ```
+/// use zirgumtak::Step;
+///
+/// fn show(step: Step) {
+///     if let Some(text) = step.text {
+///         println!("the server says: {}", text.escape_ascii());
+///     }
+/// }
+/// ```
+#[derive(Clone, Copy, PartialEq, Eq, Debug)]
+#[non_exhaustive]
+pub struct Step<'p, 'b> {
+    /// What the call answers.
+    pub answer: Answer<'b>,
+    /// The server's text, what the packet has after `M=`: any octets, in no encoding that is told.
+    /// `None` where the packet is neither a Success nor a Failure Request; `Some(&[])` where the
+    /// text is empty, or a Success message ends with its digits.
+    pub text: Option<&'p [u8]>,
+}
+
+impl<'b> Step<'_, 'b> {
+    /// The number of the answer.
+    pub fn number(self) -> u8 {
+        self.answer.number()
+    }
+
+    /// The packet to send, of no octets where there is none.
+    pub fn packet(self) -> &'b [u8] {
+        self.answer.packet()
+    }
 }
 
 /// The peer: the one that logs in.
@@ -55,17 +89,19 @@ impl Peer {
 
     /// Takes a packet. The random octets are to be new at each call; they become the peer
     /// challenge if a Response is made. A request that comes again brings the same reply again. A
-    /// Success message may end with its 40 digits or go on with ` M=` and any text.
+    /// Success message may end with its 40 digits or go on with ` M=` and any text; that text, and
+    /// a Failure message's, comes with the answer, whether it is the first time or again.
     ///
     /// Refusals, the first that holds: 10 to 17, 19, 18, 20.
-    pub fn step<'b>(
+    pub fn step<'p, 'b>(
         &mut self,
-        packet: &[u8],
+        packet: &'p [u8],
         random: &Octets16,
         reply: &'b mut [u8],
-    ) -> Result<Answer<'b>, Refusal> {
+    ) -> Result<Step<'p, 'b>, Refusal> {
         let word = raw::peer_step(&mut self.octets.0, packet, random, reply);
-        answer_of(word, reply)
+        let (answer, text) = (answer_of(word, reply)?, text_of(word, packet));
+        Ok(Step { answer, text })
     }
 
     /// Answers the kept Failure Request with these credentials, in WAITING.

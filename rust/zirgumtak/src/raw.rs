@@ -1,8 +1,9 @@
 //! The archive's functions, over slices of any size.
 //!
-//! Each answers the word of `zirgumtak.h`: a number in bits 0 to 7, n in bits 8 to 31. A slice of
-//! another size than is due is answered 23. The rest of this crate fixes the sizes by type; these
-//! functions, public with the feature `raw`, are for programs that test the sizes.
+//! Each answers the word of `zirgumtak.h`: a number in bits 0 to 7, n in bits 8 to 31, and of a
+//! peer's step and a reading the start and length of the server's text in bits 32 to 47 and 48 to
+//! 63. A slice of another size than is due is answered 23. The rest of this crate fixes the sizes by
+//! type; these functions, public with the feature `raw`, are for programs that test the sizes.
 #![allow(unsafe_code)]
 
 /// The function of one line of the list below. Its arguments are taken one by one: what the safe
@@ -68,8 +69,28 @@ functions! {
     server_resend = zt_server_resend(reads state, writes reply);
     /// The archive's version, and no answer: major * 10000 + minor * 100 + patch.
     version = zt_version();
-    /// Whether an end, 0 the peer or 1 the server, can read a packet.
-    read = zt_read(u8 end, reads packet);
+    /// What an end, 0 the peer or 1 the server, reads in a packet.
+    read = zt_read(u8 end, reads packet, writes reading);
+    /// A Challenge.
+    write_challenge = zt_write_challenge(u8 identifier, u8 chap_id, reads challenge, reads name,
+        writes out);
+    /// A Response.
+    write_response = zt_write_response(u8 identifier, u8 chap_id, reads peer_challenge,
+        reads nt_response, reads name, writes out);
+    /// A Success Request; the authenticator string comes as octets.
+    write_success_request = zt_write_success_request(u8 identifier, u8 chap_id, reads string,
+        reads text, writes out);
+    /// A Failure Request.
+    write_failure_request = zt_write_failure_request(u8 identifier, u8 chap_id, u64 code,
+        u64 retry, reads challenge, reads text, writes out);
+    /// A Success Response.
+    write_success_response = zt_write_success_response(u8 identifier, writes out);
+    /// A Failure Response.
+    write_failure_response = zt_write_failure_response(u8 identifier, writes out);
+    /// EAP Success.
+    write_eap_success = zt_write_eap_success(u8 identifier, writes out);
+    /// EAP Failure.
+    write_eap_failure = zt_write_eap_failure(u8 identifier, writes out);
     /// Whether an account table is well formed.
     accounts_check = zt_accounts_check(reads table);
     /// An account after the table that is the buffer's first `used` octets.

@@ -1,4 +1,4 @@
-//! What needs no state: the check of a packet, digests, cipher, response arithmetic.
+//! What needs no state: digests, cipher, response arithmetic.
 
 use crate::answer::{done_of, Refusal};
 use crate::{raw, Octets16, PasswordHash};
@@ -6,24 +6,6 @@ use crate::{raw, Octets16, PasswordHash};
 /// The archive's version: major * 10000 + minor * 100 + patch. It is to be this crate's.
 pub fn version() -> u64 {
     raw::version()
-}
-
-/// The end for which a packet is read.
-#[derive(Clone, Copy, PartialEq, Eq, Debug)]
-pub enum End {
-    /// The logger.
-    Peer,
-    /// The server.
-    Server,
-}
-
-/// Whether an end can read a packet; else the first of 10 to 17 that holds.
-pub fn read(end: End, packet: &[u8]) -> Result<(), Refusal> {
-    let end = match end {
-        End::Peer => 0,
-        End::Server => 1,
-    };
-    done_of(raw::read(end, packet))
 }
 
 /// MD4; [`Refusal::BadArgument`] over 65,536 octets.

@@ -59,6 +59,49 @@ fn server_stage(stage: ServerStage) -> u8 {
     }
 }
 
+fn kind(packet: Packet) -> u8 {
+    match packet {
+        Packet::Challenge { .. } => 0,
+        Packet::Response { .. } => 1,
+        Packet::SuccessRequest { .. } => 2,
+        Packet::FailureRequest { retry: false, .. } => 3,
+        Packet::FailureRequest { retry: true, .. } => 4,
+        Packet::SuccessResponse => 5,
+        Packet::FailureResponse => 6,
+        Packet::EapSuccess => 7,
+        Packet::EapFailure => 8,
+        _ => 255,
+    }
+}
+
+type Writer = dyn Fn(&mut [u8]) -> Result<&[u8], Refusal>;
+
+#[test]
+fn packets_have_their_kinds() {
+    const ID: ChapId = ChapId(1);
+    let writers: [&Writer; 9] = [
+        &|out| write_challenge(1, ID, &[0; 16], b"n", out),
+        &|out| write_response(1, ID, &[0; 16], &[0; 24], b"", out),
+        &|out| write_success_request(1, ID, &[0; 20], b"", out),
+        &|out| write_failure_request(1, ID, 0, false, &[0; 16], b"", out),
+        &|out| write_failure_request(1, ID, 0, true, &[0; 16], b"", out),
+        &|out| write_success_response(1, out),
+        &|out| write_failure_response(1, out),
+        &|out| write_eap_success(1, out),
+        &|out| write_eap_failure(1, out),
+    ];
+    for (number, write) in (0..).zip(writers) {
+        let mut room = [0; 100];
+        let packet = write(&mut room).unwrap();
+        let end = if packet[0] == 2 {
+            End::Server
+        } else {
+            End::Peer
+        };
+        assert_eq!(kind(read(end, packet).unwrap().packet), number);
+    }
+}
+
 #[test]
 fn answers_and_refusals_have_their_numbers() {
     for one in [

@@ -2,7 +2,7 @@
 //! each in a state that takes the packet as it was: read at both ends, and taken.
 
 use crate::call::Call;
-use crate::layout::{PEER, SERVER};
+use crate::layout::{PEER, READING, SERVER};
 use crate::packets::{
     account, bare_success, challenge, eap, failure, long, set_length, set_lengths, short, success,
     upper_hex, Exchange,
@@ -36,7 +36,7 @@ impl Moment {
     /// Both ends read the packet, and one that is no end, and the end takes it.
     fn take(&self, pair: &mut Pair, packet: &[u8]) -> Run<Vec<u8>> {
         for end in [0, 1, 2] {
-            pair.run(Call::Read { end, packet }, &mut [], &mut [])?;
+            pair.result(Call::Read { end, packet }, READING)?;
         }
         let call = match self.end {
             0 => Call::PeerStep {

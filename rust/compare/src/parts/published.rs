@@ -4,7 +4,7 @@
 use second::Octets16;
 
 use crate::call::Call;
-use crate::layout::{at, PEER, SERVER};
+use crate::layout::{at, PEER, READING, SERVER};
 use crate::packets::{account, Exchange};
 use crate::pair::{Answer, Difference, Pair, Run};
 use crate::random::Random;
@@ -39,8 +39,6 @@ fn expect<T: PartialEq + std::fmt::Debug>(what: &str, got: T, published: T) -> R
     Ok(())
 }
 
-const DONE: Answer = Answer { number: 0, n: 0 };
-
 /// A line: name, fields and the expected result, in hex.
 fn vector(pair: &mut Pair, random: &mut Random, line: &str) -> Run<()> {
     let mut parts = line.split('|').map(str::trim);
@@ -74,7 +72,7 @@ fn vector(pair: &mut Pair, random: &mut Random, line: &str) -> Run<()> {
         other => panic!("no such vector: {other}"),
     };
     let (answer, result) = pair.result(call, expected.len())?;
-    expect(line, (answer, &result), (DONE, expected))
+    expect(line, (answer, &result), (Answer::bare(0), expected))
 }
 
 /// The first 8 octets of SHA-1 over all three.
@@ -167,7 +165,7 @@ impl Conversation {
 fn every_packet_reads(pair: &mut Pair, conversation: &Conversation) -> Run<()> {
     for (i, packet) in conversation.packets.iter().enumerate() {
         let end = u8::from(i % 2 == 0);
-        let (answer, _) = pair.result(Call::Read { end, packet }, 0)?;
+        let (answer, _) = pair.result(Call::Read { end, packet }, READING)?;
         expect("reading", answer.number, if i == 0 { 14 } else { 0 })?;
     }
     Ok(())
@@ -209,7 +207,7 @@ fn peer_says_what_was_captured(pair: &mut Pair, conversation: &Conversation) -> 
         Conversation { right: true, .. } => 2,
         _ => 3,
     };
-    expect("a peer's end", answer, Answer { number, n: 0 })
+    expect("a peer's end", (answer.number, answer.n), (number, 0))
 }
 
 /// By the password that the peer had, every captured Response is right; by another one, the server

@@ -2,7 +2,7 @@
 //! is 23 before all else, and nothing changes.
 
 use crate::call::Call;
-use crate::layout::{PEER, SERVER};
+use crate::layout::{PEER, READING, SERVER};
 use crate::pair::{Pair, Run};
 use crate::random::Random;
 
@@ -17,13 +17,12 @@ pub fn run(pair: &mut Pair, random: &mut Random) -> Run<()> {
         servers(pair, random)?;
         let packet = random.octets(8);
         let end = random.pick(&[0, 1, 2, 3, 128, 255]);
-        pair.run(
+        pair.result(
             Call::Read {
                 end,
                 packet: &packet,
             },
-            &mut [],
-            &mut [],
+            size(random, READING),
         )?;
     }
     Ok(())
