@@ -150,9 +150,7 @@ fn success_length(packet: &[u8]) -> Option<u8> {
 #[test]
 fn a_tail_insisted_on() {
     let found = difference(|call, state, out| match call {
-        Call::Read { end: 0, packet } if success_length(packet) == Some(51) => {
-            by_second(call, state, out).max(17)
-        }
+        Call::Read { end: 0, packet } if success_length(packet) == Some(51) => 17,
         _ => by_second(call, state, out),
     });
     assert!(found.expect("a difference").contains("zt_read"));
@@ -178,7 +176,7 @@ fn padding_taken_for_a_tail() {
                 && packet.len() > 51
                 && !packet[51..].starts_with(b" M=") =>
         {
-            by_second(call, state, out).max(17)
+            17
         }
         _ => by_second(call, state, out),
     });
@@ -273,6 +271,192 @@ fn one_octet_before_the_new_account() {
     assert!(found
         .expect("a difference")
         .starts_with("both appended something else"));
+}
+
+/// The second program's word with another text for each that it tells.
+fn with_text(word: u64, text: impl Fn(u64, u64) -> (u64, u64)) -> u64 {
+    let (start, length) = (word >> 32 & 0xffff, word >> 48);
+    if start == 0 {
+        return word;
+    }
+    let (start, length) = text(start, length);
+    word & 0xffff_ffff | start << 32 | length << 48
+}
+
+/// A text that starts one octet early, of one call.
+fn early(call: &Call, state: &mut [u8], out: &mut [u8]) -> u64 {
+    let word = by_second(call, state, out);
+    match call {
+        Call::PeerStep { .. } => with_text(word, |start, length| (start - 1, length + 1)),
+        _ => word,
+    }
+}
+
+#[test]
+fn a_text_that_starts_early() {
+    let found = difference(early).expect("a difference");
+    assert!(found.contains("zt_peer_step"));
+    let found = shared(early).expect("a difference");
+    assert!(found.starts_with("both told another text"));
+}
+
+/// The text's place is also in the reading.
+#[test]
+fn a_reading_that_starts_its_text_early() {
+    let found = difference(|call, state, out| {
+        let word = by_second(call, state, out);
+        if matches!(call, Call::Read { .. }) && word >> 32 != 0 {
+            out[21] -= 1;
+            out[23] += 1;
+        }
+        word
+    });
+    assert!(found.expect("a difference").contains("zt_read"));
+}
+
+#[test]
+fn a_text_that_goes_on_into_the_padding() {
+    let found = difference(|call, state, out| match call {
+        Call::PeerStep { packet, .. } => with_text(by_second(call, state, out), |start, _| {
+            (start, packet.len() as u64 - start)
+        }),
+        _ => by_second(call, state, out),
+    });
+    assert!(found.expect("a difference").contains("zt_peer_step"));
+}
+
+/// The step without room tells what it tells with room.
+fn told_without_room(call: &Call, state: &mut [u8], out: &mut [u8]) -> u64 {
+    let (mut other, mut room) = (state.to_vec(), [0; 400]);
+    match (call, by_second(call, state, out)) {
+        (Call::PeerStep { .. }, 20) => 20 | by_second(call, &mut other, &mut room) >> 32 << 32,
+        (_, word) => word,
+    }
+}
+
+#[test]
+fn a_text_told_without_room() {
+    let found = difference(told_without_room).expect("a difference");
+    assert!(found.contains("answers 20"));
+    let found = shared(told_without_room).expect("a difference");
+    assert!(found.starts_with("both told another text"));
+}
+
+/// A request that is taken changes the stage; one that comes again changes nothing.
+#[test]
+fn no_text_of_a_request_that_comes_again() {
+    let found = difference(|call, state, out| {
+        let before = state.to_vec();
+        let word = by_second(call, state, out);
+        match call {
+            Call::PeerStep { .. } if state == before => with_text(word, |_, _| (0, 0)),
+            _ => word,
+        }
+    });
+    assert!(found.expect("a difference").contains("zt_peer_step"));
+}
+
+#[test]
+fn a_text_at_0_without_a_tail() {
+    let planted: Implementation = |call, state, out| {
+        with_text(by_second(call, state, out), |start, length| match start {
+            51 => (0, 0),
+            _ => (start, length),
+        })
+    };
+    assert!(difference(planted).is_some());
+    let found = shared(planted).expect("a difference");
+    assert!(found.starts_with("both told another text"));
+}
+
+#[test]
+fn a_text_of_a_call_that_has_none() {
+    let found = shared(|call, state, out| {
+        let word = by_second(call, state, out);
+        match call {
+            Call::PeerSupply { .. } if word as u8 == 0 => word | 60 << 32,
+            _ => word,
+        }
+    });
+    assert!(found
+        .expect("a difference")
+        .starts_with("both told another text"));
+}
+
+/// The number of E= cut to 16 bits.
+#[test]
+fn a_code_read_and_cut_off() {
+    let planted: Implementation = |call, state, out| {
+        let word = by_second(call, state, out);
+        if matches!(call, Call::Read { .. }) && word as u8 == 0 {
+            out[7..13].fill(0);
+        }
+        word
+    };
+    assert!(difference(planted)
+        .expect("a difference")
+        .contains("zt_read"));
+    assert!(shared(planted)
+        .expect("a difference")
+        .starts_with("both read something else"));
+}
+
+/// One octet more than a reading has, left as it was.
+#[test]
+fn a_reading_into_a_longer_buffer() {
+    let found = difference(|call, state, out| match call {
+        Call::Read { .. } if out.len() == 26 => by_second(call, state, &mut out[..25]),
+        _ => by_second(call, state, out),
+    });
+    assert!(found.expect("a difference").contains("zt_read"));
+}
+
+/// L of 1,021.
+#[test]
+fn a_name_too_long_written() {
+    let found = difference(|call, state, out| match *call {
+        Call::WriteChallenge {
+            challenge, name, ..
+        } if challenge.len() == 16 && name.len() == 995 && out.len() >= 1021 => {
+            out[..1021].fill(0);
+            1021 << 8
+        }
+        _ => by_second(call, state, out),
+    });
+    assert!(found.expect("a difference").contains("zt_write_challenge"));
+}
+
+/// The retry cut to 8 bits.
+#[test]
+fn a_retry_cut_off() {
+    let planted: Implementation = |call, state, out| {
+        let mut cut = *call;
+        if let Call::WriteFailureRequest { retry, .. } = &mut cut {
+            *retry &= 0xff;
+        }
+        by_second(&cut, state, out)
+    };
+    assert!(difference(planted)
+        .expect("a difference")
+        .contains("zt_write_failure_request"));
+    assert!(shared(planted)
+        .expect("a difference")
+        .starts_with("both wrote what has no form"));
+}
+
+/// Nothing after the text's first zero, as a C string would have it.
+#[test]
+fn a_text_cut_at_a_zero() {
+    let found = shared(|call, state, out| {
+        let mut cut = *call;
+        if let Call::WriteSuccessRequest { text, .. } = &mut cut {
+            *text = text.split(|octet| *octet == 0).next().unwrap_or(text);
+        }
+        by_second(&cut, state, out)
+    });
+    assert!(found
+        .expect("a difference")
+        .starts_with("both wrote something else"));
 }
 
 /// In CHALLENGE_RESPONSE_SENT, a step by the string that the state's other fields call for,

@@ -8,13 +8,15 @@ mod conversations;
 mod forms;
 mod guesses;
 mod published;
+mod readings;
 mod sizes;
 mod states;
 mod tables;
+mod writers;
 
 pub type Part = fn(&mut Pair, &mut Random) -> Run<()>;
 
-pub const PARTS: [(&str, Part); 8] = [
+pub const PARTS: [(&str, Part); 10] = [
     (
         "published vectors and captured conversations",
         published::run,
@@ -26,4 +28,6 @@ pub const PARTS: [(&str, Part); 8] = [
     ("accounts appended", appends::run),
     ("wrong guesses at two servers", guesses::run),
     ("sizes and stateless calls", sizes::run),
+    ("whole readings, and texts of every length", readings::run),
+    ("packets written", writers::run),
 ];

@@ -126,10 +126,18 @@ fn any_peer(random: &mut Random) -> [u8; PEER] {
 /// What the state takes, the request that it keeps, or any packet.
 fn packet_for_peer(random: &mut Random, state: &mut [u8; PEER]) -> Vec<u8> {
     let (id, chapid) = (random.below(4) as u8, random.below(4) as u8);
+    let text = random.pick(&[&b""[..], b"text", b" M="]);
     match random.below(9) {
-        0 => success(id, chapid, &some_string(random, state), b""),
+        0 => success(id, chapid, &some_string(random, state), text),
         8 => bare_success(id, chapid, &some_string(random, state)),
-        1 => failure(id, chapid, 691, random.below(2) as u8, &random.array(), b""),
+        1 => failure(
+            id,
+            chapid,
+            691,
+            random.below(2) as u8,
+            &random.array(),
+            text,
+        ),
         2 => challenge(id, chapid, &random.array(), b"srv"),
         3 => eap(random.pick(&[3, 4]), state[at::PEER_REQUEST + 1]),
         4 | 5 => kept_request(random, state),
