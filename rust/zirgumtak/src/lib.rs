@@ -34,6 +34,12 @@
 //! }
 //! ```
 //!
+//! # Packets
+//!
+//! [`Peer::step`] hands out the text that a server sent, a slice of the packet. Whoever looks into
+//! other packets has [`read`], which hands out their fields in the same way, and a writer for each
+//! kind, [`write_challenge`] and those after it.
+//!
 //! # Secrets
 //!
 //! A [`PasswordHash`], a [`Peer`] and a [`Server`] are wiped when they are dropped. That reaches
