@@ -35,6 +35,14 @@
  *   ZT_PEER_WAITING                  does not occur in the example, which gives up at once
  * To start over is zt_peer_new, and a new conversation of the server's.
  *
+ * A Success Request or a Failure Request brings a text of the server's, which may say why a login
+ * failed. After zt_peer_step this shows it, where show is the caller's:
+ *
+ * example of a text
+ *     if (ZT_TEXT_LEN(answer) > 0)
+ *         show(packet + ZT_TEXT_START(answer), ZT_TEXT_LEN(answer));
+ * end of example
+ *
  * A server resends (zt_server_resend) on a timer while its stage's name ends in SENT, and after some
  * resends drops the state. EAP Success and EAP Failure are not answered, and not sent again (RFC
  * 3748, 4.2): in ZT_SERVER_SUCCESS and ZT_SERVER_FAILED there is nothing to resend, and a peer that
@@ -58,17 +66,24 @@ extern "C" {
  * Version: major * 10000 + minor * 100 + patch. zt_version gives that of the archive that is
  * linked, and nothing else: it is no answer's word.
  */
-#define ZT_VERSION 300
-#define ZT_VERSION_TEXT "0.3.0"
+#define ZT_VERSION 400
+#define ZT_VERSION_TEXT "0.4.0"
 uint64_t zt_version(void);
 
 /*
  * Answers
  *
- * Each function but zt_version answers one word: a number in bits 0 to 7, n in bits 8 to 31, and
- * zeros above. n is the length of the packet that was written to the start of the reply buffer, the
- * octets after it being left as they were; n is 0 where no packet was written. (One exception:
- * zt_accounts_append gives a table's length.)
+ * Each function but zt_version answers one word: a number in bits 0 to 7, n in bits 8 to 31, the
+ * start of a text in bits 32 to 47 and its length in bits 48 to 63.
+ *
+ * n is the length of the packet that was written to the start of the reply buffer, or of a writer's
+ * out, the octets after it being left as they were; n is 0 where no packet was written. (One
+ * exception: zt_accounts_append gives a table's length.)
+ *
+ * The text is what follows "M=" in a Success Request or a Failure Request, up to Length.
+ * zt_peer_step and zt_read tell where it lies in the packet, the start counting from the packet's
+ * first octet. Where a Success message ends with its digits, the text is empty and starts at Length.
+ * Start and length are 0 for every other packet, for every other function and at every refusal.
  *
  * A number from 10 up is a refusal: n is 0, and no octet of any buffer has changed, the state's
  * included. (One exception: zt_peer_new of a name that is too long.) Where several conditions
@@ -76,6 +91,8 @@ uint64_t zt_version(void);
  */
 #define ZT_NUMBER(answer) ((unsigned)((answer) & 0xff))
 #define ZT_N(answer) ((size_t)((answer) >> 8 & 0xffffff))
+#define ZT_TEXT_START(answer) ((size_t)((answer) >> 32 & 0xffff))
+#define ZT_TEXT_LEN(answer) ((size_t)((answer) >> 48 & 0xffff))
 
 #define ZT_WRITTEN 0           /* done; n octets of the reply buffer are a packet to send */
 #define ZT_NEEDS_CREDENTIALS 1 /* the peer waits for zt_peer_supply or zt_peer_give_up */
@@ -91,7 +108,7 @@ uint64_t zt_version(void);
 #define ZT_BAD_FORM 17         /* the rest of the packet breaks its form */
 #define ZT_WRONG_IDENTIFIER 18 /* Identifier or MS-CHAPv2-ID is not the one due */
 #define ZT_NOT_TAKEN 19        /* this stage does not take this packet or call */
-#define ZT_NO_ROOM 20          /* the reply, or the table, is longer than its buffer */
+#define ZT_NO_ROOM 20          /* what is to be written is longer than its buffer */
 #define ZT_BAD_TABLE 21        /* the account table is malformed */
 #define ZT_SAME_CHALLENGE 22   /* a Failure Request is due, and the fresh challenge is the old one */
 #define ZT_BAD_ARGUMENT 23     /* an argument outside its size */
@@ -99,11 +116,13 @@ uint64_t zt_version(void);
 /*
  * Sizes, in octets
  *
- * A buffer of a fixed size (a state, hash, challenge, random octets, NT-Response, key, block,
- * digest) that comes with another length is refused with ZT_BAD_ARGUMENT before all else.
+ * A buffer of a fixed size (a state, reading, hash, challenge, random octets, NT-Response,
+ * authenticator string, key, block, digest) that comes with another length is refused with
+ * ZT_BAD_ARGUMENT before all else.
  */
 #define ZT_PEER_OCTETS 1667
 #define ZT_SERVER_OCTETS 304
+#define ZT_READING_OCTETS 25
 
 #define ZT_HASH_OCTETS 16          /* password hash: MD4 of the UTF-16 password */
 #define ZT_CHALLENGE_OCTETS 16     /* challenges, and the random octets of a peer's step */
@@ -113,7 +132,7 @@ uint64_t zt_version(void);
 #define ZT_SHA1_OCTETS 20
 #define ZT_DES_OCTETS 8            /* a DES key with its parity bits, and a block */
 
-#define ZT_MAX_PACKET 1020         /* the largest Length that is read */
+#define ZT_MAX_PACKET 1020         /* the largest Length that is read or written */
 #define ZT_MAX_NAME 256            /* a peer's name: 0 to 256; a server's own: 1 to 256 */
 #define ZT_MAX_PASSWORD 512        /* 256 UTF-16 units */
 #define ZT_MAX_TABLE 65536         /* an account table */
@@ -189,6 +208,71 @@ static inline int ZT_SERVER_STAGE(const uint8_t *state)
 }
 
 /*
+ * A reading: what zt_read tells of a packet
+ *
+ * Numbers are little-endian, and a start counts from the packet's first octet. What a packet does
+ * not have is 0, start and length alike.
+ *
+ *    offset  octets  field
+ *         0       1  kind
+ *         1       1  Identifier
+ *         2       1  MS-CHAPv2-ID
+ *         3       2  Length
+ *         5       8  code: the number after E=
+ *        13       2  start of the challenge
+ *        15       2  length of the challenge
+ *        17       2  start of the response
+ *        19       2  length of the response
+ *        21       2  start of the tail
+ *        23       2  length of the tail
+ *
+ *    kind             MS-CHAPv2-ID  code  challenge           response            tail
+ *    Challenge        yes           -     challenge           -                   name
+ *    Response         yes           -     peer challenge      NT-Response         name
+ *    Success Request  yes           -     -                   40 digits after S=  text
+ *    Failure Request  yes           yes   32 digits after C=  -                   text
+ *    all others       -             -     -                   -                   -
+ *
+ * The text lies where the answer's word says, too: empty and at Length where a Success message ends
+ * with its digits. The digits after C= are of either case.
+ */
+#define ZT_KIND_CHALLENGE 0
+#define ZT_KIND_RESPONSE 1
+#define ZT_KIND_SUCCESS_REQUEST 2
+#define ZT_KIND_FAILURE_REQUEST 3 /* a Failure Request with R=0 */
+#define ZT_KIND_RETRY_REQUEST 4   /* a Failure Request with R=1 */
+#define ZT_KIND_SUCCESS_RESPONSE 5
+#define ZT_KIND_FAILURE_RESPONSE 6
+#define ZT_KIND_EAP_SUCCESS 7
+#define ZT_KIND_EAP_FAILURE 8
+
+/* The number of two octets at an offset: the functions below know the offsets. */
+static inline size_t ZT_READING_AT(const uint8_t *reading, size_t offset)
+{
+    return (size_t)(reading[offset] | reading[offset + 1] << 8);
+}
+
+/* The fields of a reading. */
+static inline int ZT_READING_KIND(const uint8_t *reading) { return reading[0]; }
+static inline uint8_t ZT_READING_IDENTIFIER(const uint8_t *reading) { return reading[1]; }
+static inline uint8_t ZT_READING_CHAP_ID(const uint8_t *reading) { return reading[2]; }
+static inline size_t ZT_READING_LENGTH(const uint8_t *reading) { return ZT_READING_AT(reading, 3); }
+static inline size_t ZT_READING_CHALLENGE_START(const uint8_t *reading) { return ZT_READING_AT(reading, 13); }
+static inline size_t ZT_READING_CHALLENGE_LEN(const uint8_t *reading) { return ZT_READING_AT(reading, 15); }
+static inline size_t ZT_READING_RESPONSE_START(const uint8_t *reading) { return ZT_READING_AT(reading, 17); }
+static inline size_t ZT_READING_RESPONSE_LEN(const uint8_t *reading) { return ZT_READING_AT(reading, 19); }
+static inline size_t ZT_READING_TAIL_START(const uint8_t *reading) { return ZT_READING_AT(reading, 21); }
+static inline size_t ZT_READING_TAIL_LEN(const uint8_t *reading) { return ZT_READING_AT(reading, 23); }
+static inline uint64_t ZT_READING_CODE(const uint8_t *reading)
+{
+    uint64_t code = 0;
+    int i;
+    for (i = 7; i >= 0; i--)
+        code = code << 8 | reading[5 + i];
+    return code;
+}
+
+/*
  * The peer
  */
 
@@ -203,6 +287,13 @@ uint64_t zt_peer_new(uint8_t *state, size_t state_len,
  * the same reply again. A Success message may end with its 40 digits, as FreeRADIUS writes it, or
  * go on with " M=" and any text or none, as zt_server_packet writes it; anything else is
  * ZT_BAD_FORM.
+ *
+ * What to show the user is the text of a Success Request or a Failure Request. ZT_TEXT_START and
+ * ZT_TEXT_LEN of the answer say where in the packet it lies, whatever the number below 10, and again
+ * for a request that comes again. It is octets of the server's choosing, also of a server that has
+ * not shown that it knows the password: not ended by a zero, and possibly not printable, so escape
+ * them. Where a Success message ends with its digits, the text is empty and starts at Length.
+ *
  *   ZT_WRITTEN            the reply is to be sent
  *   ZT_NEEDS_CREDENTIALS  the server took name or password for wrong, and allows another try
  *   ZT_AUTHENTICATED      the server has shown that it knows the password, and said Success
@@ -261,12 +352,69 @@ uint64_t zt_server_resend(const uint8_t *state, size_t state_len,
                           uint8_t *reply, size_t reply_len);
 
 /*
- * Without a state. Each answers 0, with n = 0 but for zt_accounts_append, or a refusal.
+ * Packets
+ *
+ * Without a state. The ends read and write by themselves: these are for a program that looks at
+ * packets, or makes its own. zt_read answers 0, with n = 0, or a refusal.
+ *
+ * The writers write one packet each, to the start of out: ZT_WRITTEN, and n is its Length. Refusals,
+ * in this order: 23 for what has no form or needs a Length over ZT_MAX_PACKET, which is said at each
+ * function; 20 where out is shorter than Length. A buffer of ZT_MAX_PACKET octets is always enough.
  */
 
-/* Whether a packet can be read by an end: 0 is the peer, 1 the server. Refusals: 10 to 17; for
- * another end 10 to 12, and then 23. */
-uint64_t zt_read(uint8_t end, const uint8_t *packet, size_t packet_len);
+/* Reads a packet as an end does, 0 being the peer and 1 the server, and writes every octet of the
+ * reading. Whether the end would take the packet depends on its state, and is not told. Refusals: 10
+ * to 17; for another end 10 to 12, and then 23. */
+uint64_t zt_read(uint8_t end,
+                 const uint8_t *packet, size_t packet_len,
+                 uint8_t *reading, size_t reading_len);
+
+/* Challenge. Length is 26 and the name's length; 23 for a name of 0 octets or over 994. */
+uint64_t zt_write_challenge(uint8_t identifier,
+                            uint8_t chap_id,
+                            const uint8_t *challenge, size_t challenge_len,
+                            const uint8_t *name, size_t name_len,
+                            uint8_t *out, size_t out_len);
+
+/* Response. Length is 59 and the name's length; 23 for a name over ZT_MAX_NAME. */
+uint64_t zt_write_response(uint8_t identifier,
+                           uint8_t chap_id,
+                           const uint8_t *peer_challenge, size_t peer_challenge_len,
+                           const uint8_t *nt_response, size_t nt_response_len,
+                           const uint8_t *name, size_t name_len,
+                           uint8_t *out, size_t out_len);
+
+/* Success Request, with the authenticator string, as zt_authenticator gives it, in hex, upper case,
+ * after "S=", and the text after " M=". Length is 54 and the text's length; 23 for a text over 966. */
+uint64_t zt_write_success_request(uint8_t identifier,
+                                  uint8_t chap_id,
+                                  const uint8_t *string, size_t string_len,
+                                  const uint8_t *text, size_t text_len,
+                                  uint8_t *out, size_t out_len);
+
+/* Failure Request, with the code in decimal after "E=", retry after " R=", the challenge in hex, upper
+ * case, after " C=", then " V=3", and the text after " M=". Length is 57, the number of the code's
+ * digits and the text's length; 23 for a code over 9,999,999,999, a retry over 1, or a Length over
+ * ZT_MAX_PACKET. */
+uint64_t zt_write_failure_request(uint8_t identifier,
+                                  uint8_t chap_id,
+                                  uint64_t code,
+                                  uint64_t retry,
+                                  const uint8_t *challenge, size_t challenge_len,
+                                  const uint8_t *text, size_t text_len,
+                                  uint8_t *out, size_t out_len);
+
+/* Success Response and Failure Response: Length is 6. EAP Success and EAP Failure: Length is 4. */
+uint64_t zt_write_success_response(uint8_t identifier, uint8_t *out, size_t out_len);
+uint64_t zt_write_failure_response(uint8_t identifier, uint8_t *out, size_t out_len);
+uint64_t zt_write_eap_success(uint8_t identifier, uint8_t *out, size_t out_len);
+uint64_t zt_write_eap_failure(uint8_t identifier, uint8_t *out, size_t out_len);
+
+/*
+ * Accounts, digests and the cipher
+ *
+ * Without a state. Each answers 0, with n = 0 but for zt_accounts_append, or a refusal.
+ */
 
 /* Whether an account table is well formed. Refusal: 21.
  *
