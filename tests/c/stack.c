@@ -23,13 +23,17 @@ struct use {
 };
 
 static uint8_t stack[STACK_OCTETS] __attribute__((aligned(16)));
-static const uint8_t CHALLENGE[16] = {9}, RANDOM[16] = {10}, NT_RESPONSE[24] = {11}, KEY[8] = {12};
+static const uint8_t CHALLENGE[16] = {9}, RANDOM[16] = {10}, NT_RESPONSE[24] = {11}, KEY[8] = {12}, STRING[20] = {13};
 static uint8_t units[ZT_MAX_PASSWORD], hash[16], wrong_hash[16], name[NAME_LEN], table[RECORD], longer[2 * RECORD];
 static size_t units_len = ZT_MAX_PASSWORD;
 static uint8_t peer[ZT_PEER_OCTETS], server[ZT_SERVER_OCTETS], fresh[16], out[24];
 /* The packet on its way, and the one that answers it. */
 static uint8_t packet[ZT_MAX_PACKET], reply[ZT_MAX_PACKET];
 static size_t packet_len;
+/* Who reads it, and what is read. */
+static uint8_t end, reading[ZT_READING_OCTETS];
+/* As much of it as a writer takes is a name or a text. */
+static const uint8_t text[ZT_MAX_PACKET];
 static const uint8_t *supplied = hash;
 static unsigned retries;
 static uint64_t answer;
@@ -106,7 +110,15 @@ CALL(server_new, (server, sizeof server));
 CALL(server_start, (server, sizeof server, 1, CHALLENGE, 16, name, NAME_LEN, retries, reply, sizeof reply));
 CALL(server_packet, (server, sizeof server, packet, packet_len, table, sizeof table, fresh, 16, reply, sizeof reply));
 CALL(server_resend, (server, sizeof server, reply, sizeof reply));
-CALL(read, (0, packet, packet_len));
+CALL(read, (end, packet, packet_len, reading, sizeof reading));
+CALL(write_challenge, (1, 1, CHALLENGE, 16, text, 994, reply, sizeof reply));
+CALL(write_response, (1, 1, RANDOM, 16, NT_RESPONSE, 24, name, NAME_LEN, reply, sizeof reply));
+CALL(write_success_request, (1, 1, STRING, 20, text, 966, reply, sizeof reply));
+CALL(write_failure_request, (1, 1, 9999999999u, 1, CHALLENGE, 16, text, 953, reply, sizeof reply));
+CALL(write_success_response, (1, reply, sizeof reply));
+CALL(write_failure_response, (1, reply, sizeof reply));
+CALL(write_eap_success, (1, reply, sizeof reply));
+CALL(write_eap_failure, (1, reply, sizeof reply));
 CALL(accounts_check, (table, sizeof table));
 CALL(accounts_append, (longer, sizeof longer, sizeof table, 0, hash, 16, name, NAME_LEN));
 CALL(version, ());
@@ -118,8 +130,11 @@ CALL(nt_response, (CHALLENGE, 16, RANDOM, 16, name, NAME_LEN, hash, 16, out, 24)
 CALL(authenticator, (hash, 16, NT_RESPONSE, 24, RANDOM, 16, CHALLENGE, 16, name, NAME_LEN, out, 20));
 
 static struct use *const all[] = {&peer_new, &peer_step, &peer_supply, &peer_give_up, &server_new, &server_start,
-                                  &server_packet, &server_resend, &read, &accounts_check, &accounts_append, &version, &md4,
-                                  &sha1, &password_hash, &des, &nt_response, &authenticator};
+                                  &server_packet, &server_resend, &read, &write_challenge, &write_response,
+                                  &write_success_request, &write_failure_request, &write_success_response,
+                                  &write_failure_response, &write_eap_success, &write_eap_failure, &accounts_check,
+                                  &accounts_append, &version, &md4, &sha1, &password_hash, &des, &nt_response,
+                                  &authenticator};
 
 static void must(unsigned number)
 {
@@ -135,6 +150,7 @@ static void must(unsigned number)
 
 static void to_peer(unsigned number)
 {
+    end = 0;
     MEASURE(read);
     MEASURE(peer_step);
     must(number);
@@ -143,6 +159,8 @@ static void to_peer(unsigned number)
 static void to_server(unsigned number)
 {
     fresh[0]++;
+    end = 1;
+    MEASURE(read);
     MEASURE(server_packet);
     must(number);
 }
@@ -195,6 +213,35 @@ static void wrong_passwords(void)
     to_peer(ZT_WRITTEN);
     to_server(ZT_ENDED);
     to_peer(ZT_ENDED);
+}
+
+/* What was written, read by the end that it is for. */
+static void read_back(uint8_t reader)
+{
+    must(ZT_WRITTEN);
+    end = reader;
+    MEASURE(read);
+    must(0);
+}
+
+static void packets(void)
+{
+    MEASURE(write_challenge);
+    read_back(0);
+    MEASURE(write_response);
+    read_back(1);
+    MEASURE(write_success_request);
+    read_back(0);
+    MEASURE(write_failure_request);
+    read_back(0);
+    MEASURE(write_success_response);
+    read_back(1);
+    MEASURE(write_failure_response);
+    read_back(1);
+    MEASURE(write_eap_success);
+    read_back(0);
+    MEASURE(write_eap_failure);
+    read_back(0);
 }
 
 static void without_a_state(void)
@@ -261,6 +308,7 @@ int main(void)
     memcpy(table + 22, name, NAME_LEN);
     right_password();
     wrong_passwords();
+    packets();
     without_a_state();
     wiping();
     for (i = 0; i < sizeof all / sizeof *all; i++)
