@@ -6,6 +6,7 @@ ghost use Rattle.octets.specs.Lists.{cells, Appended};
 ghost use Rattle.console.specs.Reads.{Leaves};
 ghost use Rattle.console.specs.Inner.{spacedAt, escaped, shownPlain, shownAs, visible, Fronts};
 use libc::STDERR_FILENO;
+use libc::STDIN_FILENO;
 use libc::STDOUT_FILENO;
 
 // A file as it was read: not opened, not read whole, or so many octets at the front of a buffer.
@@ -59,6 +60,13 @@ pub fn read(what: &[u8], path: &[u8], buffer: &mut [u8]) -> File
     file
 }
 
+// Standard input, in the same way.
+pub fn read_input(what: &[u8], buffer: &mut [u8]) -> File
+    ensures { λ r. ⌜ (now (what .exit) ≡ now (what .entry)) × Leaves r (now (buffer .entry)) (now (buffer .exit)) ⌝ }
+{
+    read_open(what, STDIN_FILENO, buffer)
+}
+
 // ---- complaints, on standard error
 
 // Words as they are.
@@ -107,17 +115,17 @@ pub fn number(n: u64)
     io::print_decimal(STDOUT_FILENO, n);
 }
 
-// The meaning of an account's code, or of a Failure Request's: RFC 2759, section 6.
+// The meaning of a Failure Request's code, or of an account's other than 0: RFC 2759, section 6.
 pub fn code(code: u64)
     ensures { λ r. ⌜ r ≡ tt ⌝ }
 {
     match code {
-        0 => say(b"may log in"),
         646 => say(b"restricted logon hours"),
         647 => say(b"account disabled"),
         648 => say(b"password expired"),
         649 => say(b"no dial-in permission"),
         691 => say(b"authentication failure"),
+        709 => say(b"error changing password"),
         _ => say(b"another error"),
     }
 }
