@@ -2,7 +2,6 @@
 use talk::Login;
 
 mod arguments;
-mod packets;
 mod talk;
 mod words;
 

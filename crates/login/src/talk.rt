@@ -1,10 +1,10 @@
 // A login between both ends: what each end answers, and each packet.
 ghost use mathlib.Core.Path.{_≡_};
 ghost use Rattle.login.specs.Counted.{countedUp};
-use super::packets;
 use super::words;
 use answer::Answer;
 use answer::Identifier;
+use packet::End;
 use peer::Peer;
 use peer::PeerStep;
 use server::Server;
@@ -41,6 +41,14 @@ fn needs_credentials(a: Answer) -> bool {
     }
 }
 
+// A packet on its way: its fields in words, and its octets.
+fn show(way: &[u8], end: End, p: &[u8]) {
+    console::say(way);
+    describe::reading(end, p);
+    describe::dump(p);
+    console::say(b"\n");
+}
+
 // ---- the peer
 
 fn tell_peer(done: PeerStep, reply: &[u8]) {
@@ -53,7 +61,11 @@ fn tell_peer(done: PeerStep, reply: &[u8]) {
     words::peer_stage(stage);
     console::say(b"\n");
     if 0 < n {
-        packets::to_server(octets::part(reply, 0, n));
+        show(
+            b"\n  peer -> server    ",
+            End::Server,
+            octets::part(reply, 0, n),
+        );
     }
 }
 
@@ -102,7 +114,11 @@ fn tell_server(done: ServerStep, reply: &[u8]) {
     words::server_stage(stage);
     console::say(b"\n");
     if 0 < n {
-        packets::to_peer(octets::part(reply, 0, n));
+        show(
+            b"\n  server -> peer    ",
+            End::Peer,
+            octets::part(reply, 0, n),
+        );
     }
 }
 

@@ -1,9 +1,7 @@
-// A packet on the screen: its direction, its name, its fields in words, its octets.
-use packet::End;
+// A packet that was read: its name, its numbers, its fields in words.
 use packet::Kind;
 use packet::Packet;
 use packet::Place;
-use packet::Reading;
 
 fn name(kind: Kind) {
     match kind {
@@ -51,11 +49,16 @@ fn response(k: Packet, p: &[u8]) {
     console::say(b"\n");
 }
 
+// A Success message may end with its digits.
 fn success(k: Packet, p: &[u8]) {
     let digits = k.response;
     let text = k.tail;
     console::say(b"    authenticator   S=");
     console::say(at(p, digits));
+    if text.start == packet::SUCCESS_TAIL_AT {
+        console::say(b"\n    text            none\n");
+        return;
+    }
     console::say(b"\n    text            M=");
     console::quoted(at(p, text));
     console::say(b"\n");
@@ -106,7 +109,7 @@ fn has_chap_id(kind: Kind) -> bool {
     }
 }
 
-fn whole(k: Packet, p: &[u8]) {
+pub(crate) fn packet(k: Packet, p: &[u8]) {
     let kind = k.kind;
     name(kind);
     console::say(b", Identifier ");
@@ -118,25 +121,4 @@ fn whole(k: Packet, p: &[u8]) {
     console::number(k.length as u64);
     console::say(b" octets\n");
     fields(k, p);
-    console::say(b"    octets          ");
-    console::lines(p, b"                    ");
-    console::say(b"\n\n");
-}
-
-fn read_for(end: End, p: &[u8]) {
-    let x = packet::read(end, p);
-    match x {
-        Reading::Refused(_) => console::say(b"no packet\n\n"),
-        Reading::Read(k) => whole(k, p),
-    }
-}
-
-pub(crate) fn to_peer(p: &[u8]) {
-    console::say(b"\n  server -> peer    ");
-    read_for(End::Peer, p);
-}
-
-pub(crate) fn to_server(p: &[u8]) {
-    console::say(b"\n  peer -> server    ");
-    read_for(End::Server, p);
 }
