@@ -79,12 +79,13 @@ fn keep_peer(step: PeerStep, state: &mut [u8]) -> u64
     let a = step.answer;
     let k = answer::number(a);
     let text = step.text;
+    let w = word_telling(k, step.n, text);
     if k < 10 {
         let p = step.peer;
         state::encode_peer(p, state);
-        return word_telling(k, step.n, text);
+        return w;
     }
-    word_telling(k, step.n, text)
+    w
 }
 
 fn begin_peer(state: &mut [u8], name: &[u8], hash: &[u8]) -> u64

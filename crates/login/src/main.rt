@@ -60,6 +60,7 @@ fn example() {
     talk::play(
         octets::part(&table, 0, n),
         b"User",
+        &[],
         Login {
             hash,
             challenge: CHALLENGE,
@@ -74,8 +75,8 @@ fn help() {
         b"login
     Plays the example of RFC 2759.
 
-login TABLE NAME PASSWORD [RETRIES]
-login TABLE NAME PASSWORD CHALLENGE PEER-CHALLENGE [RETRIES]
+login TABLE NAME PASSWORD [RETRIES] [text=TEXT]
+login TABLE NAME PASSWORD CHALLENGE PEER-CHALLENGE [RETRIES] [text=TEXT]
     Plays a login of NAME with PASSWORD, between a peer and a server in memory, and
     shows each packet. Nothing is sent.
 
@@ -86,6 +87,8 @@ login TABLE NAME PASSWORD CHALLENGE PEER-CHALLENGE [RETRIES]
     CHALLENGE       the server's, 32 hex digits; else the published one
     PEER-CHALLENGE  the peer's, 32 hex digits; else the published one
     RETRIES         how often the server allows a retry, 0 to 10; else 0
+    TEXT            up to 960 octets: put after M= in each Failure Request, as servers
+                    do that say why; the peer tells it to whoever looks at the panel
 
     At a retry the peer gives the same name and password again. Each further
     challenge is the one before with its last octet counted up. Challenges that can
@@ -127,14 +130,6 @@ fn main() {
     }
     if count == 2 {
         one_word();
-        return;
-    }
-    if count == 3 {
-        arguments::complain(b"PASSWORD is missing");
-        return;
-    }
-    if 7 < count {
-        arguments::complain(b"there are too many arguments");
         return;
     }
     arguments::play(count);

@@ -5,6 +5,10 @@ use super::words;
 use answer::Answer;
 use answer::Identifier;
 use packet::End;
+use packet::Kind;
+use packet::Packet;
+use packet::Place;
+use packet::Reading;
 use peer::Peer;
 use peer::PeerStep;
 use server::Server;
@@ -69,8 +73,20 @@ fn tell_peer(done: PeerStep, reply: &[u8]) {
     }
 }
 
+// What the clerk is shown: the text that the step tells, if it has any octets.
+fn tell_text(text: Place, packet: &[u8]) {
+    if text.len == 0 {
+        return;
+    }
+    console::say(b"peer, the server's text: ");
+    console::quoted(octets::part(packet, text.start, text.len));
+    console::say(b"\n");
+}
+
 fn peer_step(peer: Peer, packet: &[u8], random: [u8; 16], reply: &mut [u8]) -> PeerStep {
     let done = peer.step(packet, random, reply);
+    let text = done.text;
+    tell_text(text, packet);
     console::say(b"peer: ");
     tell_peer(done, reply);
     done
@@ -135,6 +151,67 @@ fn server_turn(
     done
 }
 
+// ---- a server that has a text
+
+fn is_retry(kind: Kind) -> u8 {
+    match kind {
+        Kind::RetryRequest => 1,
+        _ => 0,
+    }
+}
+
+fn is_failure(kind: Kind) -> bool {
+    match kind {
+        Kind::FailureRequest => true,
+        Kind::RetryRequest => true,
+        _ => false,
+    }
+}
+
+// The same Failure Request with the text after M=; its length.
+fn with_text(k: Packet, text: &[u8], packet: &mut [u8]) -> usize {
+    let kind = k.kind;
+    let id = k.id;
+    let chapid = k.chapid;
+    let written = writers::write_failure_request(
+        id,
+        chapid,
+        k.error,
+        is_retry(kind),
+        packet::hex_sixteen_at(packet, k.challenge.start),
+        text,
+        packet,
+    );
+    let n = written.n;
+    console::say(b"with the text, as another server writes it:\n");
+    show(
+        b"\n  server -> peer    ",
+        End::Peer,
+        octets::part(packet, 0, n),
+    );
+    n
+}
+
+fn if_failure(k: Packet, n: usize, text: &[u8], packet: &mut [u8]) -> usize {
+    let kind = k.kind;
+    if is_failure(kind) {
+        return with_text(k, text, packet);
+    }
+    n
+}
+
+// The n octets that the server wrote, or, where they are a Failure Request and a text is given, the same with the text.
+fn given_text(n: usize, text: &[u8], packet: &mut [u8]) -> usize {
+    if text.len() == 0 {
+        return n;
+    }
+    let x = packet::read(End::Peer, octets::part(packet, 0, n));
+    match x {
+        Reading::Refused(_) => n,
+        Reading::Read(k) => if_failure(k, n, text, packet),
+    }
+}
+
 // ---- both
 
 fn begin(name: &[u8], login: Login, packet: &mut [u8]) -> Ends {
@@ -155,7 +232,15 @@ fn begin(name: &[u8], login: Login, packet: &mut [u8]) -> Ends {
 }
 
 // The peer takes the packet, and the server takes the reply.
-fn round(ends: Ends, turn: u8, table: &[u8], name: &[u8], login: Login, packet: &mut [u8]) -> Ends {
+fn round(
+    ends: Ends,
+    turn: u8,
+    table: &[u8],
+    name: &[u8],
+    text: &[u8],
+    login: Login,
+    packet: &mut [u8],
+) -> Ends {
     let mut reply = [0u8; 400];
     let took = peer_turn(
         ends.peer,
@@ -180,11 +265,8 @@ fn round(ends: Ends, turn: u8, table: &[u8], name: &[u8], login: Login, packet: 
         packet,
     );
     let server = done.server;
-    Ends {
-        peer,
-        server,
-        n: done.n,
-    }
+    let n = given_text(done.n, text, packet);
+    Ends { peer, server, n }
 }
 
 fn is_in(ends: Ends) -> bool {
@@ -221,7 +303,7 @@ fn over(ends: Ends) {
 }
 
 // Twenty turns are more than any login takes.
-pub(crate) fn play(table: &[u8], name: &[u8], login: Login) {
+pub(crate) fn play(table: &[u8], name: &[u8], text: &[u8], login: Login) {
     let mut packet = [0u8; 1020];
     let mut ends = begin(name, login, &mut packet);
     let mut turn: u8 = 0;
@@ -230,7 +312,7 @@ pub(crate) fn play(table: &[u8], name: &[u8], login: Login) {
             over(ends);
             return;
         }
-        ends = round(ends, turn, table, name, login, &mut packet);
+        ends = round(ends, turn, table, name, text, login, &mut packet);
         turn += 1;
     }
     over(ends);

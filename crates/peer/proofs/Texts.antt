@@ -1,14 +1,10 @@
 -- Calls that tell a text.
 use Prim.Native.Nat.{ℕ}
 use mathlib.Core.Path.{_≡_, refl, sym, ap, _∙_}
-use mathlib.Core.Bool.{true}
 use mathlib.Core.List.{List}
 use lib.ListN.{take}
-use lib.Dec.{ltb}
 use borrow.Author.Tests.{le-ltb}
-use Rattle.octets.proofs.Exits.{exits, pick-true, pick-false}
-use Rattle.answer.specs.declared.Answer.{Answer}
-use Rattle.answer.specs.declared.Answer.the-variants.{Refused}
+use Rattle.octets.proofs.Exits.{exits, pick-false}
 use Rattle.answer.specs.declared.Refusal.{Refusal}
 use Rattle.answer.specs.Answer.{numberOf, refusalOf}
 use Rattle.answer.specs.Outcome.{Outcome, refused, Does}
@@ -30,13 +26,6 @@ use Rattle.peer.proofs.Readings.{reading-refused, reading-read}
 pub text-refused : (why : Refusal) (text : Place) → textBy (refusalOf why) text ≡ nowhere
 unfolding textBy
 text-refused why text = pick-false _ _ _ (le-ltb _ _ (refusals-listed why .0))
-
-pub text-not : (a : Answer) (why : Refusal) (text : Place) → a ≡ Refused why → nowhere ≡ textBy (numberOf a) text
-text-not a why text e = rw e (sym (text-refused why text))
-
-pub text-so : (a b : Answer) (text r : Place) → a ≡ b → ltb (numberOf b) 10 ≡ true → r ≡ text → r ≡ textBy (numberOf a) text
-unfolding textBy
-text-so a b text r e h f = rw e (f ∙ sym (pick-true _ _ _ h))
 
 -- ---- the same of a call
 pub telling-by : (o o′ : Outcome Peer) (text : Place) (r : PeerStep) (before after : List ℕ) → DoesTelling o′ text r before after → o ≡ o′ → DoesTelling o text r before after

@@ -385,13 +385,11 @@ fn answer_to<'a>(
 fn text_by(answer: Answer, k: Packet) -> Place
     ensures { λ r. ⌜ r ≡ textBy (numberOf answer) (textIn k) ⌝ }
 {
-    match answer {
-        Answer::Written => packet::text_in(k),
-        Answer::NeedsCredentials => packet::text_in(k),
-        Answer::Authenticated => packet::text_in(k),
-        Answer::Ended => packet::text_in(k),
-        Answer::Refused(_) => packet::NOWHERE,
+    let number = answer::number(answer);
+    if number < 10 {
+        return packet::text_in(k);
     }
+    packet::NOWHERE
 }
 
 // ---- groups of the state

@@ -12,5 +12,4 @@ keep-peer-spec =
     (λ c κs. search needs)
     (λ c. search needs)
     (λ c. search (needs, encoded-so, word-telling-by))
-    (λ c κs. search needs)
     (λ c. search (needs, encoded-not, word-telling-by)))

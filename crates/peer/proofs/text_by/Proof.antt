@@ -1,23 +1,14 @@
-use Rattle.peer.proofs.Texts.{text-not, text-so}
-use borrow.Author.Needs.{needs}
+use Rattle.peer.specs.Calls.{textBy}
+use Rattle.octets.proofs.Exits.{exits, came-lt, came-ge}
 use Rattle.peer.proofs.text_by.Statement.{statement}
 use Rattle.peer.proofs.text_by.Tie as tie
 
 pub text-by-spec : {M : Type 1} → statement M
+unfolding textBy
 text-by-spec =
     tie.close
     (tie.spec
-    (λ c. search needs)
-    (λ c κs. search needs)
-    (λ c. search needs)
-    (λ c κs. search needs)
-    (λ c. search needs)
-    (λ c κs. search needs)
-    (λ c. search needs)
-    (λ c κs. search needs)
-    (λ c. search needs)
-    (λ c. search (needs, text-so))
-    (λ c. search (needs, text-so))
-    (λ c. search (needs, text-so))
-    (λ c. search (needs, text-so))
-    (λ c. search (needs, text-not)))
+    (λ c κs. search exits)
+    (λ c κs. search exits)
+    (λ c. search (exits, came-lt))
+    (λ c. search (exits, came-ge)))
