@@ -1,8 +1,10 @@
 // A peer and a server that go from case to case. The peer: peer NAME HASH; step PACKET RANDOM; supply NAME HASH RANDOM;
 // give_up. The server: server; start IDENTIFIER CHALLENGE NAME RETRIES; packet PACKET TABLE FRESH; resend. Each writes what
-// is in the reply buffer.
+// is in the reply buffer, and a step also the text that it tells.
 use super::script;
+use answer::Answer;
 use answer::Identifier;
+use packet::Place;
 use peer::Peer;
 use peer::PeerStep;
 use server::Server;
@@ -57,13 +59,29 @@ pub(crate) fn make_peer(line: &[u8], ends: Ends) -> Ends {
     after_peer(b"peer", done, b"", ends)
 }
 
+// The text that a step tells, if it has any octets.
+fn tell_text(answer: Answer, text: Place, packet: &[u8]) {
+    if text.len == 0 {
+        return;
+    }
+    script::tell(b"text", answer, octets::part(packet, text.start, text.len));
+}
+
+fn take(packet: &[u8], random: [u8; 16], ends: Ends) -> Ends {
+    let mut reply = [0u8; 400];
+    let peer = ends.peer;
+    let done = peer.step(packet, random, &mut reply);
+    let answer = done.answer;
+    let text = done.text;
+    let after = after_peer(b"step", done, &reply, ends);
+    tell_text(answer, text, packet);
+    after
+}
+
 pub(crate) fn step(line: &[u8], ends: Ends) -> Ends {
     let mut packet = [0u8; 1100];
     let n = script::field(line, 1, &mut packet);
-    let mut reply = [0u8; 400];
-    let peer = ends.peer;
-    let done = peer.step(&packet[0..n], sixteen(line, 2), &mut reply);
-    after_peer(b"step", done, &reply, ends)
+    take(&packet[0..n], sixteen(line, 2), ends)
 }
 
 pub(crate) fn supply(line: &[u8], ends: Ends) -> Ends {

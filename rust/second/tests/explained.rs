@@ -374,7 +374,8 @@ fn other_length(what: &str, packet: &[u8], right: usize) -> Option<String> {
     (l != right).then(|| format!("L of {what} is {l}, not {right}"))
 }
 
-/// L first, as it says which fields are there; then the fields in their order.
+/// L first, as it says which fields are there and how long the name is; then the fields in their
+/// order (docs/DECISIONS.md: the papers give no order within 17).
 fn bad_challenge(packet: &[u8]) -> Option<String> {
     let l = packet.len();
     if l < 27 {
@@ -392,15 +393,15 @@ fn bad_response(packet: &[u8]) -> Option<String> {
         return Some(format!("L of a Response is {l}, under 59"));
     }
     let (size, zeros, flags, name) = (packet[9], &packet[26..34], packet[58], l - 59);
-    let broken = if size != 49 {
+    let broken = if name > 256 {
+        format!("the name of the Response has {name} octets, more than 256")
+    } else if size != 49 {
         format!("Value-Size of the Response is {size}, not 49")
     } else if zeros != [0; 8] {
         let zeros = digits(zeros);
         format!("octets 26 to 33 of the Response are {zeros}, not all zero")
     } else if flags != 0 {
         format!("flags of the Response are {flags}, not 0")
-    } else if name > 256 {
-        format!("the name of the Response has {name} octets, more than 256")
     } else {
         return None;
     };

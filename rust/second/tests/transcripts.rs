@@ -9,11 +9,13 @@ use second::*;
 const CHALLENGE: &str = "5B5D7C7D7B3F2F3E3C2C602132262628";
 const PEER_CHALLENGE: &str = "21402324255E262A28295F2B3A337C7E";
 
-/// A line of a transcript: an end's answer and stage, or a packet and the end it goes to.
+/// A line of a transcript: an end's answer and stage, a packet and the end it goes to, or a text
+/// that the peer tells.
 #[derive(Debug, PartialEq)]
 enum Event {
     Answer(String, u8, String),
     Packet(String, Vec<u8>),
+    Text(Vec<u8>),
 }
 
 #[test]
@@ -41,6 +43,16 @@ fn a_wrong_password_with_two_retries() {
 fn an_account_that_is_disabled() {
     let shown = include_str!("../../../tests/programs/disabled");
     let login = Login::new("CAMP\\frz", "clientPass");
+    assert_eq!(events(shown), login.play());
+}
+
+#[test]
+fn a_text_in_a_failure_request() {
+    let login = Login {
+        text: "zwölf \"Grad\"".to_string(),
+        ..Login::new("CAMP\\frz", "clientPass")
+    };
+    let shown = include_str!("../../../tests/programs/told");
     assert_eq!(events(shown), login.play());
 }
 
@@ -78,6 +90,8 @@ struct Login {
     challenge: Octets16,
     random: Octets16,
     retries: u64,
+    /// What is put after `M=` in each Failure Request on its way to the peer.
+    text: String,
 }
 
 impl Login {
@@ -92,6 +106,7 @@ impl Login {
             challenge: fixed(&hex(CHALLENGE)),
             random: fixed(&hex(PEER_CHALLENGE)),
             retries: 0,
+            text: String::new(),
         }
     }
 
@@ -120,7 +135,10 @@ impl Login {
         );
         for turn in 0.. {
             let random = counted_up(&self.random, turn);
-            let (mut done, _) = peer.step(&packet[..n], &random, &mut reply);
+            let (mut done, text) = peer.step(&packet[..n], &random, &mut reply);
+            if text.1 > 0 {
+                all.push(Event::Text(packet[text.0..][..text.1].to_vec()));
+            }
             let mut m = tell(&mut all, "peer", done, &peer.stage, "server", &reply);
             if done.0 == number::NEEDS_CREDENTIALS {
                 done = peer.supply(name, &hash, &random, &mut reply);
@@ -133,8 +151,37 @@ impl Login {
             let fresh = counted_up(&self.challenge, turn + 1);
             let done = server.packet(&reply[..m], &self.table, &fresh, &mut packet);
             n = tell(&mut all, "server", done, &server.stage, "peer", &packet);
+            n = self.with_text(&mut all, n, &mut packet);
         }
         all
+    }
+
+    /// A Failure Request gets the text, if there is one; other packets go on as they are.
+    fn with_text(&self, all: &mut Vec<Event>, n: usize, packet: &mut [u8]) -> usize {
+        let Ok(read) = packet::read(End::Peer, &packet[..n]) else {
+            return n;
+        };
+        let retry = match read.kind {
+            Kind::FailureRequest => 0,
+            Kind::RetryRequest => 1,
+            _ => return n,
+        };
+        if self.text.is_empty() {
+            return n;
+        }
+        let text = self.text.as_bytes();
+        let n = packet::write_failure_request(
+            read.id,
+            read.chapid,
+            read.code,
+            retry,
+            &read.challenge,
+            text,
+            packet,
+        )
+        .unwrap();
+        all.push(Event::Packet("peer".to_string(), packet[..n].to_vec()));
+        n
     }
 }
 
@@ -180,7 +227,9 @@ fn lines_of_the_table() -> impl Iterator<Item = (String, Octets16, u16)> {
 fn events(shown: &str) -> Vec<Event> {
     let mut all = Vec::new();
     for line in shown.lines() {
-        if let Some((who, rest)) = line.split_once(": answer ") {
+        if let Some(text) = line.strip_prefix("peer, the server's text: ") {
+            all.push(Event::Text(unquoted(text)));
+        } else if let Some((who, rest)) = line.split_once(": answer ") {
             let (number, stage) = rest.split_once(", stage ").unwrap();
             let number = number.split(' ').next().unwrap().parse().unwrap();
             all.push(Event::Answer(who.to_string(), number, stage_name(stage)));
@@ -198,6 +247,25 @@ fn events(shown: &str) -> Vec<Event> {
         }
     }
     all
+}
+
+/// The octets of a text in quotation marks, in which a backslash escapes.
+fn unquoted(shown: &str) -> Vec<u8> {
+    let inner = shown
+        .strip_prefix('"')
+        .and_then(|rest| rest.strip_suffix('"'));
+    let mut left = inner.unwrap().as_bytes();
+    let mut octets = Vec::new();
+    while let Some((&octet, rest)) = left.split_first() {
+        let (octet, used) = match (octet, rest.first()) {
+            (b'\\', Some(b'x')) => (hex(std::str::from_utf8(&rest[1..3]).unwrap())[0], 3),
+            (b'\\', Some(&escaped)) => (escaped, 1),
+            _ => (octet, 0),
+        };
+        octets.push(octet);
+        left = &rest[used..];
+    }
+    octets
 }
 
 /// CHALLENGE_SENT as this program names it.
