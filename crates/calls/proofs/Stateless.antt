@@ -3,7 +3,7 @@ use Prim.Native.Nat.{ℕ}
 use native.Mathlib.Omega.{arith}
 use mathlib.Core.List.{List, _++_}
 use mathlib.Core.Bool.{Bool, true, false}
-use lib.ListN.{length, take}
+use lib.ListN.{take}
 use Rattle.octets.specs.Choice.{pick}
 use Rattle.octets.proofs.Exits.{arms}
 use Rattle.answer.specs.Outcome as told

@@ -12,7 +12,6 @@ use Rattle.answer.specs.Sizes.{maxPacket}
 use Rattle.answer.proofs.Outcomes.{fitting-so}
 use Rattle.packet.specs.declared.End.the-variants as end
 use Rattle.packet.specs.declared.Packet.{Packet}
-use Rattle.packet.specs.declared.Place.{Place}
 use Rattle.packet.specs.Forms.{FailureSpelling, failureMessage, chapPacket}
 use Rattle.packet.specs.Learned.{failureReading}
 use Rattle.octets.specs.Octets.{number}

@@ -1,24 +1,22 @@
 -- The fields of a reading, found again in its octets.
-use Prim.Native.Nat.{ℕ, _+_, _*_, _/_, _%_, _≤_, _<_}
+use Prim.Native.Nat.{ℕ, _+_, _*_, _/_, _%_, _≤_}
 use native.Mathlib.Omega.{arith}
-use mathlib.Core.Path.{_≡_, refl, sym, ap, _∙_}
+use mathlib.Core.Path.{_≡_, refl, _∙_}
 use mathlib.Core.List.{List}
 use lib.ListN.{length, take}
-use Rattle.octets.specs.Octets.{numberAt, pairOf}
+use Rattle.octets.specs.Octets.{numberAt}
 use Rattle.octets.proofs.Decimals.{number-few}
-use Rattle.answer.specs.Outcome.{gives}
 use Rattle.answer.specs.Sizes.{maxPacket}
-use Rattle.packet.specs.declared.End.{End}
 use Rattle.packet.specs.declared.Kind.{Kind}
 use Rattle.packet.specs.declared.Kind.the-variants.{Challenge, Response, SuccessRequest, FailureRequest, RetryRequest, SuccessResponse, FailureResponse, EapSuccess, EapFailure}
 use Rattle.packet.specs.declared.Packet.{Packet}
 use Rattle.packet.specs.declared.Place.{Place}
-use Rattle.packet.specs.Reader.{place, readPacket}
+use Rattle.packet.specs.Reader.{place}
 use Rattle.packet.proofs.Places.{reading-tells}
 use Rattle.packet.proofs.Readings.{tells, Shape}
 use Rattle.packet.proofs.Shapes.{FailureShape}
 use Rattle.wire.specs.Readings.{octetsOfReading}
-use Rattle.wire.specs.Promises.{Holds, ReadingTold}
+use Rattle.wire.specs.Promises.{ReadingTold}
 
 -- a number of two octets
 pair-back : (n : ℕ) → n ≤ maxPacket → n % 256 + n / 256 % 256 * 256 ≡ n
