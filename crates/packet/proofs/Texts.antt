@@ -9,9 +9,10 @@ use lib.Seq.{length-take-le, take-add, drop-at}
 use lib.Dec.{eqb}
 use borrow.Author.Tests.{ne-eqb}
 use Rattle.octets.specs.Lists.{part}
-use Rattle.octets.proofs.Exits.{pick-true, pick-false, arms, clash}
+use Rattle.octets.proofs.Exits.{pick-true, pick-false, arms, clash, tested}
 use Rattle.answer.specs.declared.Refusal.{Refusal}
-use Rattle.answer.specs.Outcome.{gives}
+use Rattle.answer.specs.Outcome.{Told, gives}
+use Rattle.answer.specs.Sizes.{maxPacket}
 use Rattle.answer.proofs.Told.{refusal-some}
 use Rattle.packet.specs.declared.End.{End}
 use Rattle.packet.specs.declared.End.the-variants.{Peer}
@@ -24,11 +25,12 @@ use Rattle.packet.specs.declared.Reading.the-variants.{Refused, Read}
 use Rattle.packet.specs.Frame.{lengthOf}
 use Rattle.packet.specs.Kinds.{hasText}
 use Rattle.packet.specs.Learned.{Learned, Learns}
-use Rattle.packet.specs.Promises.{ToEnd, Long}
+use Rattle.packet.specs.Promises.{ToEnd, Long, ReadOrRefused, refused-by, read-as}
 use Rattle.packet.specs.Reader.{nowhere, at, failureOf, toldReading, readPacket}
-use Rattle.packet.specs.Texts.{textIn, textTold, textPlace, textPart, IsRest, HasText, TextTold}
+use Rattle.packet.specs.Texts.{textIn, textTold, textPlace, textPart, IsRest, HandsBack, TextTold}
 use Rattle.packet.proofs.Back.{written-reads-back}
 use Rattle.packet.proofs.Places.{reading-tells}
+use Rattle.packet.proofs.Readings.{read-or-refused}
 
 -- ---- of a reading
 pub text-refused : (x : Reading) (why : Refusal) → x ≡ Refused why → nowhere ≡ textTold (toldReading x)
@@ -82,8 +84,25 @@ is-rest end p x e h =
     let z : textPlace end p .start + textPlace end p .len ≡ lengthOf p = (λ j. a j .start + a j .len) ∙ to-end (x .kind) x h (t .long) ∙ t .size in
     record { to-end = z; rest = part-to-end p _ _ (lengthOf p) z (rw (t .size) at (t .inside)) }
 
+within : (end : End) (p : List ℕ) → textPlace end p .start + textPlace end p .len ≤ maxPacket
+within end p = go (read-or-refused end p) refl
+  where
+    go : {t : Told Packet} → ReadOrRefused p t → readPacket end p ≡ t → textPlace end p .start + textPlace end p .len ≤ maxPacket
+    go (refused-by n h l) f =
+        let e : readPacket end p .number ≡ n = ap (λ (t : Told Packet). t .number) f in
+        rw (text-unread end p (λ z. omega arith)) (omega arith)
+    go (read-as x i) f =
+        tested (hasText (x .kind))
+        (λ t.
+        let r = is-rest end p x f t .to-end in
+        let s = reading-tells end p x f in
+        let z = s .size in
+        let m = s .most in
+        omega arith)
+        (λ t. rw (text-none end p x f t) (omega arith))
+
 -- ---- of the two messages
-learned-text : (p : List ℕ) (l : Learned) → hasText (l .packet .kind) ≡ true → Learns Peer p l → HasText p (l .packet .tail) (l .tail)
+learned-text : (p : List ℕ) (l : Learned) → hasText (l .packet .kind) ≡ true → Learns Peer p l → HandsBack p (l .packet .tail) (l .tail)
 unfolding textPart
 learned-text p l h r =
     let a = text-tail Peer p (l .packet) (r .reads) h in
@@ -100,4 +119,5 @@ text-is-told = record {
   failure = λ id chapid e retry c v text pad f h. learned-text _ _ (failure-text retry) (written-reads-back .failure-request id chapid e retry c v text pad f h);
   other = text-none;
   unread = text-unread;
+  within = within;
 }

@@ -25,7 +25,7 @@ use Rattle.packet.specs.Reader.{place, nowhere, at, readPacket}
 unfoldable pub textIn : Packet → Place
 textIn k = pick (hasText (k .kind)) (k .tail) nowhere
 
--- and so has a refusal
+-- by what the reader gives: a refusal has none
 unfoldable pub textTold : Told Packet → Place
 textTold t = pick (eqb (t .number) 0) (textIn (t .value)) nowhere
 
@@ -43,7 +43,7 @@ pub record IsRest (end : End) (p : List ℕ) : Type 0 where
   pub rest : textPart end p ≡ drop (textPlace end p .start) (cutOf p)
 
 -- the text of p, and where it lies
-pub record HasText (p : List ℕ) (a : Place) (text : List ℕ) : Type 0 where
+pub record HandsBack (p : List ℕ) (a : Place) (text : List ℕ) : Type 0 where
   pub lies : textPlace Peer p ≡ a
   pub is : textPart Peer p ≡ text
 
@@ -51,9 +51,11 @@ pub record TextTold : Type 0 where
   pub rest : (end : End) (p : List ℕ) (x : Packet) → readPacket end p ≡ gives x → hasText (x .kind) ≡ true → IsRest end p
   -- by the two messages: with any spelling, any text and any padding it is what follows ` M=`
   pub success : (id chapid : ℕ) (s : List ℕ) (tail : Tail) (pad : List ℕ) → length s ≡ 40 → allHex false s ≡ true → successReading id chapid tail .length ≤ maxPacket →
-      HasText (chapPacket 1 3 id chapid (successMessage s tail) ++ pad) (place (textStart tail) (length (textOf tail))) (textOf tail)
+      HandsBack (chapPacket 1 3 id chapid (successMessage s tail) ++ pad) (place (textStart tail) (length (textOf tail))) (textOf tail)
   pub failure : (id chapid : ℕ) (e : List ℕ) (retry : ℕ) (c v text pad : List ℕ) → FailureSpelling e retry c v → 56 + length e + length v + length text ≤ maxPacket →
-      HasText (chapPacket 1 4 id chapid (failureMessage e (48 + retry) c v text) ++ pad) (place (56 + length e + length v) (length text)) text
+      HandsBack (chapPacket 1 4 id chapid (failureMessage e (48 + retry) c v text) ++ pad) (place (56 + length e + length v) (length text)) text
   -- other packets, and refusals
   pub other : (end : End) (p : List ℕ) (x : Packet) → readPacket end p ≡ gives x → hasText (x .kind) ≡ false → textPlace end p ≡ nowhere
   pub unread : (end : End) (p : List ℕ) → (readPacket end p .number ≡ 0 → ⊥) → textPlace end p ≡ nowhere
+  -- start and length need no more than 16 bits
+  pub within : (end : End) (p : List ℕ) → textPlace end p .start + textPlace end p .len ≤ maxPacket

@@ -129,7 +129,7 @@ textBy number text = pick (ltb number 10) text nowhere
 unfoldable pub stepText : Peer → List ℕ → List ℕ → ℕ → Place
 stepText p s random room = textBy (stepOf p s random room .number) (textPlace end.Peer s)
 
--- a call did what o says, and told a text there. The other calls tell none
+-- a call did what o says, and told a text there; the calls that take no packet tell none
 pub record DoesTelling (o : Outcome Peer) (text : Place) (r : PeerStep) (before after : List ℕ) : Type 0 where
   pub does : Does o (numberOf (r .answer)) (r .n) (r .peer) before after
   pub told : r .text ≡ text
