@@ -28,6 +28,37 @@ fn the_example() {
     confirm(End::Peer, given, shown);
 }
 
+/// `login` shows its packets in the same words, and their octets after them.
+#[test]
+fn packets_of_logins() {
+    let logins = [
+        include_str!("../../../crates/login/stdout"),
+        include_str!("../../../tests/programs/disabled"),
+        include_str!("../../../tests/programs/given"),
+        include_str!("../../../tests/programs/retries"),
+        include_str!("../../../tests/programs/told"),
+    ];
+    for login in logins {
+        let packets = login.split("\n\n").filter(|part| part.contains(" -> "));
+        assert!(packets.clone().count() > 3, "a login without packets");
+        for shown in packets {
+            confirm_shown(shown);
+        }
+    }
+}
+
+fn confirm_shown(shown: &str) {
+    let (words, octets) = shown.split_once("\n    octets ").unwrap();
+    let octets = hex(&octets.replace('\n', " "));
+    let (way, words) = words.split_at(20);
+    let end = match way {
+        "  server -> peer    " => End::Peer,
+        "  peer -> server    " => End::Server,
+        _ => panic!("{way:?} is no way"),
+    };
+    assert_eq!(words, explained(end, &octets));
+}
+
 #[test]
 fn every_kind_and_refusal_occurs() {
     let requests = [
