@@ -10,6 +10,6 @@ hex_at_spec =
     (tie.spec
     (λ c κs. search exits)
     (λ c κs. search exits)
-    (λ c. search (exits, ← c.before.before.octet.ensures))
+    (λ c. search (exits, ← c.before.before.octet-x.ensures))
     (λ c κs. search exits)
-    (λ c. search (exits, ← c.before.before.octet.ensures)))
+    (λ c. search (exits, ← c.before.before.octet-x.ensures)))

@@ -9,4 +9,4 @@ octet_is_spec =
     tie.close
     (tie.spec
     (λ c κs. search exits)
-    (λ c. search (exits, ← c.octet.ensures)))
+    (λ c. search (exits, ← c.octet-y.ensures)))
