@@ -21,7 +21,7 @@ append_spec =
     (λ c. search rules)
     (λ c. search appends)
     (λ c κs.
-    append_ready _ _ _ _ _ _ c.before.before.before.before.before.before.before.if1.false c.before.before.before.before.before.is-table.ensures
+    append_ready _ _ _ _ _ _ c.before.before.before.before.before.before.before.if1.false c.before.before.before.before.before.is_table.ensures
     c.before.before.before.before.if2.false c.before.before.before.is_code.ensures c.before.before.if3.false c.before.if4.false)
     (λ c. search rules)
     (λ c. search appends))
