@@ -6,7 +6,7 @@ use Rattle.password.proofs.hash.Goals as goal
 
 pub returns-then-not-is_utf8 : goal.returns-then-not-is_utf8
 unfolding hashed_of
-returns-then-not-is_utf8 c = search (rules, hash_long, hash_good)
+returns-then-not-is_utf8 c = search exits
 
 pub returns-then-n-gt256 : goal.returns-then-n-gt256
 unfolding hashed_of

@@ -4,4 +4,9 @@ use borrow.Author.Rules.{rules}
 use Rattle.writers.proofs.put_challenge.Goals as goal
 
 pub returns : goal.returns
-returns c = search rules
+returns c =
+    laid_done c.append.ensures
+    (laid_more c.append-at-2.ensures
+    (laid_more c.append-at.ensures
+    (laid_more c.put_header-at.ensures
+    (laid_challenge _ _ _ _ _ c.requires.0 c.requires.2))))

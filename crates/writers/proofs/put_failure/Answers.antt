@@ -5,4 +5,14 @@ use borrow.Author.Rules.{rules}
 use Rattle.writers.proofs.put_failure.Goals as goal
 
 pub returns : goal.returns
-returns c = search rules
+returns c =
+    laid_done c.append.ensures
+    (laid_more c.append-at-5.ensures
+    (laid_more c.append_hex-at.ensures
+    (laid_more c.append-at-4.ensures
+    (laid_more c.append-at-3.ensures
+    (laid_more c.append-at-2.ensures
+    (laid_more c.append_decimal-at.ensures
+    (laid_more c.append-at.ensures
+    (laid_more c.put_header-at.ensures
+    (laid_failure _ _ _ _ _ _ _ _ c.requires.0 c.requires.3)))))))))

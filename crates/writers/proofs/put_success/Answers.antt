@@ -4,4 +4,10 @@ use borrow.Author.Rules.{rules}
 use Rattle.writers.proofs.put_success.Goals as goal
 
 pub returns : goal.returns
-returns c = search rules
+returns c =
+    laid_done c.append.ensures
+    (laid_more c.append-at-2.ensures
+    (laid_more c.append_hex-at.ensures
+    (laid_more c.append-at.ensures
+    (laid_more c.put_header-at.ensures
+    (laid_success _ _ _ _ _ c.requires.1)))))
