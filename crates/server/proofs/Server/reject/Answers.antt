@@ -1,0 +1,9 @@
+use Rattle.server.proofs.Laws.{failure_fits, sent_few, reject_by}
+use Rattle.std.proofs.Common.{rules}
+use Rattle.server.proofs.Server.reject.Goals as goal
+
+pub ask-requires : goal.ask-requires
+ask-requires c = search (rules, reject_by)
+
+pub returns : goal.returns
+returns c = search (rules, reject_by)

@@ -1,0 +1,9 @@
+use Rattle.server.proofs.Laws.{success_fits, sent_few, succeed_by}
+use Rattle.std.proofs.Common.{rules}
+use Rattle.server.proofs.Server.succeed.Goals as goal
+
+pub ask-requires : goal.ask-requires
+ask-requires c = search (rules, succeed_by)
+
+pub returns : goal.returns
+returns c = search (rules, succeed_by)
