@@ -17,7 +17,7 @@ const STDOUT: i32 = 1;
 const STDERR: i32 = 2;
 
 // A file as it was read: not opened, not read whole, or so many octets at the front of a buffer.
-#[derive(Drop)]
+#[derive(Clone, Copy)]
 pub enum File {
     Unopened,
     Unread,
@@ -294,7 +294,7 @@ pub fn lines(s: &[u8], margin: &[u8])
 // ---- text
 
 // An octet as it is shown, at the front of an array.
-#[derive(Drop)]
+#[derive(Clone, Copy)]
 struct Shown {
     text: [u8; 4],
     len: usize,

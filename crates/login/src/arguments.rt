@@ -76,7 +76,7 @@ fn with_login<R: Env>(rt: &R, table: &[u8], name: &[u8], text: &[u8], login: Log
 
 // ---- the challenges
 
-#[derive(Drop)]
+#[derive(Clone, Copy)]
 struct Sixteen {
     good: bool,
     octets: [u8; 16],
