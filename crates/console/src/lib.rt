@@ -1,7 +1,8 @@
 // What the programs read, and what they put on the screen.
 #![tactic(auto)]
 
-ghost use Rattle.std.specs.Prelude.{◌≡◌, ◌*◌, ◌≤◌, length, IfSome};
+ghost use Rattle.std.specs.Prelude.{◌≡◌, ◌*◌, ◌≤◌, length, IfSome, MatchResult};
+ghost use Rattle.std.specs.Str.{IsUtf8};
 ghost use Rattle.octets.specs.Lists.{cells, Appended};
 ghost use Rattle.console.specs.Reads.{Leaves};
 ghost use Rattle.console.specs.Inner.{spaced_at, escaped, shown_plain, shown_as, visible, Fronts};
@@ -51,7 +52,9 @@ pub fn arg<R: Env>(rt: &R, i: usize, buffer: &mut [u8]) -> Option<usize>
 // ---- reading
 
 // A path as the library takes it, which has to be UTF-8.
-pub fn path_of(path: &[u8]) -> std::io::Result<&str> {
+pub fn path_of(path: &[u8]) -> std::io::Result<&str>
+    ensures { MatchResult result (λ text. text.now ≡ path.now) (λ _. IsUtf8 path.now → ⊥) }
+{
     match std::str::from_utf8(path) {
         Ok(text) => Ok(text),
         Err(_) => Err(Error::from(ErrorKind::InvalidFilename)),
