@@ -20,9 +20,9 @@ bit_selection_spec =
     (λ c κs. search rules)
     (λ c.
     rows_are _ c.word_of.ensures
-    (row_on _ _ _ _ _ c.before.before.before.before.before.before.before.row.ensures
-    (row_on _ _ _ _ _ c.before.before.before.before.before.before.row2.ensures
-    (row_on _ _ _ _ _ c.before.before.before.before.before.row3.ensures
-    (row_on _ _ _ _ _ c.before.before.before.before.row4.ensures
-    (row_on _ _ _ _ _ c.before.before.before.row5.ensures
-    (row_last _ _ _ c.before.before.row6.ensures))))))))
+    (row_on _ _ _ _ _ c.before.before.before.before.before.before.before.row-a.ensures
+    (row_on _ _ _ _ _ c.before.before.before.before.before.before.row-b.ensures
+    (row_on _ _ _ _ _ c.before.before.before.before.before.row-c.ensures
+    (row_on _ _ _ _ _ c.before.before.before.before.row-d.ensures
+    (row_on _ _ _ _ _ c.before.before.before.row-e.ensures
+    (row_last _ _ _ c.before.before.row-f.ensures))))))))

@@ -17,4 +17,4 @@ box_at_spec =
     (λ c. search rules)
     (λ c. search rules)
     (λ c κs. search rules)
-    (λ c. box_is _ _ _ (search rules) c.looked-up.ensures))
+    (λ c. box_is _ _ _ (search rules) c.looked_up.ensures))

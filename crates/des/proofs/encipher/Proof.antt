@@ -21,10 +21,10 @@ encipher_spec =
     (λ c.
     enciphered_is _ _ _ _ _ _ _ _ _ _
     (octets_in 8 _ _ c.before.before.before.before.before.before.before.before.word_of.ensures (search rules))
-    c.before.before.before.before.before.before.before.permuted-choice-1.ensures
-    (octets_in 8 _ _ c.before.before.before.before.before.word-of2.ensures (search rules))
-    c.before.before.before.before.initial-permutation.ensures
-    c.before.before.before.rounds.ensures
+    c.before.before.before.before.before.before.before.permuted_choice_1-cd.ensures
+    (octets_in 8 _ _ c.before.before.before.before.before.word_of-2.ensures (search rules))
+    c.before.before.before.before.initial_permutation.ensures
+    c.before.before.before.rounds-lr.ensures
     c.before.before.swap.ensures
-    c.before.final-permutation.ensures
-    c.octets-of.ensures))
+    c.before.final_permutation.ensures
+    c.octets_of.ensures))

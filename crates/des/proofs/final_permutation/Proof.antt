@@ -22,11 +22,11 @@ final_permutation_spec =
     (λ c κs. search rules)
     (λ c.
     rows_are _ c.word_of.ensures
-    (row_on _ _ _ _ _ c.before.before.before.before.before.before.before.before.before.row.ensures
-    (row_on _ _ _ _ _ c.before.before.before.before.before.before.before.before.row2.ensures
-    (row_on _ _ _ _ _ c.before.before.before.before.before.before.before.row3.ensures
-    (row_on _ _ _ _ _ c.before.before.before.before.before.before.row4.ensures
-    (row_on _ _ _ _ _ c.before.before.before.before.before.row5.ensures
-    (row_on _ _ _ _ _ c.before.before.before.before.row6.ensures
-    (row_on _ _ _ _ _ c.before.before.before.row7.ensures
-    (row_last _ _ _ c.before.before.row8.ensures))))))))))
+    (row_on _ _ _ _ _ c.before.before.before.before.before.before.before.before.before.row-a.ensures
+    (row_on _ _ _ _ _ c.before.before.before.before.before.before.before.before.row-b.ensures
+    (row_on _ _ _ _ _ c.before.before.before.before.before.before.before.row-c.ensures
+    (row_on _ _ _ _ _ c.before.before.before.before.before.before.row-d.ensures
+    (row_on _ _ _ _ _ c.before.before.before.before.before.row-e.ensures
+    (row_on _ _ _ _ _ c.before.before.before.before.row-f.ensures
+    (row_on _ _ _ _ _ c.before.before.before.row-g.ensures
+    (row_last _ _ _ c.before.before.row-h.ensures))))))))))

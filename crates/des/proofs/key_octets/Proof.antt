@@ -12,4 +12,4 @@ key_octets_spec =
     (λ c. search rules)
     (λ c κs. search rules)
     (λ c κs. search rules)
-    (λ c. cc (octets_in 7 _ _ c.before.word_of.ensures (search rules))))
+    (λ c. cc (octets_in 7 _ _ c.before.word_of-w.ensures (search rules))))
