@@ -27,7 +27,13 @@ fn octet(line: &[u8], k: usize) -> u8 {
     out[0]
 }
 
-fn after_peer(rt: &impl Print, name: &[u8], done: PeerStep, reply: &[u8], ends: Ends) -> io::Result<Ends> {
+fn after_peer(
+    rt: &impl Print,
+    name: &[u8],
+    done: PeerStep,
+    reply: &[u8],
+    ends: Ends,
+) -> io::Result<Ends> {
     let answer = done.answer;
     let n = done.n;
     script::tell(rt, name, answer, octets::part(reply, 0, n))?;
@@ -36,7 +42,13 @@ fn after_peer(rt: &impl Print, name: &[u8], done: PeerStep, reply: &[u8], ends: 
     Ok(Ends { peer, server })
 }
 
-fn after_server(rt: &impl Print, name: &[u8], done: ServerStep, reply: &[u8], ends: Ends) -> io::Result<Ends> {
+fn after_server(
+    rt: &impl Print,
+    name: &[u8],
+    done: ServerStep,
+    reply: &[u8],
+    ends: Ends,
+) -> io::Result<Ends> {
     let answer = done.answer;
     let n = done.n;
     script::tell(rt, name, answer, octets::part(reply, 0, n))?;
@@ -64,7 +76,12 @@ fn tell_text(rt: &impl Print, answer: Answer, text: Place, packet: &[u8]) -> io:
     if text.len == 0 {
         return Ok(());
     }
-    script::tell(rt, b"text", answer, octets::part(packet, text.start, text.len))
+    script::tell(
+        rt,
+        b"text",
+        answer,
+        octets::part(packet, text.start, text.len),
+    )
 }
 
 fn take(rt: &impl Print, packet: &[u8], random: [u8; 16], ends: Ends) -> io::Result<Ends> {

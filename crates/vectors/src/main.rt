@@ -1,6 +1,6 @@
+// Runs the cases of standard input, a line each, and writes the name, the answer's number and the result of each.
 #![tactic(auto)]
 
-// Runs the cases of standard input, a line each, and writes the name, the answer's number and the result of each.
 ghost use Rattle.std.specs.Prelude.{◌≤◌, length, IfOk};
 
 use ends::Ends;
