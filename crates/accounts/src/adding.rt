@@ -12,7 +12,7 @@ use crate::{Added, is_code, look};
 use answer::{Answer, Refusal};
 
 // A record, at the front of an array.
-#[derive(Drop)]
+#[derive(Clone, Copy)]
 struct Record {
     octets: [u8; 278],
     len: usize,

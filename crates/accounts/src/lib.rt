@@ -1,4 +1,5 @@
 // The account table of document 01: whether it is well formed, and the account of a user.
+#![tactic(auto)]
 mod adding;
 mod names;
 
@@ -15,7 +16,7 @@ use answer::{Answer, Refusal};
 use octets::{Order, number_at, octet};
 
 // What `find` answers: 21, 23, or 0 with no account of the user, or its code and where in the table its hash of 16 octets begins.
-#[derive(Drop)]
+#[derive(Clone, Copy)]
 pub enum Found {
     Malformed,
     BadUser,
@@ -24,14 +25,14 @@ pub enum Found {
 }
 
 // What `append` answers, and the table's new length, or 0.
-#[derive(Drop)]
+#[derive(Clone, Copy)]
 pub struct Added {
     pub answer: Answer,
     pub n: usize,
 }
 
 // An account, which the walk carries from record to record as plain values; its hash begins at 0 where none is known.
-#[derive(Drop)]
+#[derive(Clone, Copy)]
 struct Known {
     code: u16,
     hash: usize,
@@ -41,7 +42,7 @@ const NONE: Known = Known { code: 0, hash: 0 };
 
 // What `look` answers, as plain values, so that nothing waits for a test of whether there is an account: whether the table is well
 // formed; the code of the user's account, and where its hash begins, which is 0 where there is none.
-#[derive(Drop)]
+#[derive(Clone, Copy)]
 pub struct Looked {
     pub formed: bool,
     pub code: u16,

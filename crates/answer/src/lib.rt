@@ -1,4 +1,5 @@
 // What a call answers, with the numbers of document 01, and the two kinds of identifier.
+#![tactic(auto)]
 ghost use Rattle.std.specs.Prelude.{◌≡◌};
 ghost use Rattle.answer.specs.Answer.{refusal_of, number_of};
 
@@ -8,7 +9,7 @@ pub const MAX_PACKET: usize = 1020;
 pub const MAX_NAME: usize = 256;
 
 // The refusals, in the order of their numbers, 10 to 23.
-#[derive(Drop)]
+#[derive(Clone, Copy)]
 pub enum Refusal {
     Short,
     BadLength,
@@ -26,7 +27,7 @@ pub enum Refusal {
     BadArgument,
 }
 
-#[derive(Drop)]
+#[derive(Clone, Copy)]
 pub enum Answer {
     Written,
     NeedsCredentials,
@@ -36,11 +37,11 @@ pub enum Answer {
 }
 
 // The Identifier of an EAP packet.
-#[derive(Drop)]
+#[derive(Clone, Copy)]
 pub struct Identifier(pub u8);
 
 // The MS-CHAPv2-ID, a number of another kind.
-#[derive(Drop)]
+#[derive(Clone, Copy)]
 pub struct ChapId(pub u8);
 
 fn refusal_number(why: Refusal) -> u8

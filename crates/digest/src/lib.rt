@@ -1,4 +1,5 @@
 // MD4 (RFC 1320) and SHA-1 (FIPS 180-1) of at most 65,536 octets.
+#![tactic(auto)]
 ghost use Rattle.std.specs.Prelude.{◌≡◌};
 ghost use Rattle.digest.specs.Md4.{told_md4, md4_told};
 ghost use Rattle.digest.specs.Sha1.{told_sha1, sha1_told};
@@ -10,13 +11,13 @@ mod md4_rounds;
 mod sha1_rounds;
 mod words;
 
-#[derive(Drop)]
+#[derive(Clone, Copy)]
 pub struct Md4Digest {
     pub answer: Answer,
     pub octets: [u8; 16],
 }
 
-#[derive(Drop)]
+#[derive(Clone, Copy)]
 pub struct Sha1Digest {
     pub answer: Answer,
     pub octets: [u8; 20],

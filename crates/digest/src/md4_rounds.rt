@@ -8,7 +8,7 @@ use super::blocks::{block_count, put_block, put_octets};
 use super::words::{add, choose, majority, parity, rotl};
 use octets::Order;
 
-#[derive(Drop)]
+#[derive(Clone, Copy)]
 pub struct Buffer {
     pub a: u32,
     pub b: u32,
@@ -16,7 +16,7 @@ pub struct Buffer {
     pub d: u32,
 }
 
-#[derive(Drop)]
+#[derive(Clone, Copy)]
 pub enum Round {
     First,
     Second,

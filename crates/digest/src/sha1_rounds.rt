@@ -9,7 +9,7 @@ use super::blocks::{block_count, put_block, put_octets};
 use super::words::{add, choose, majority, parity, rotl};
 use octets::Order;
 
-#[derive(Drop)]
+#[derive(Clone, Copy)]
 pub struct Buffer {
     pub a: u32,
     pub b: u32,

@@ -1,11 +1,12 @@
 // A line of text as octets.
+#![tactic(auto)]
 ghost use Rattle.std.specs.Prelude.{◌≡◌, ◌<◌, ◌≤◌, length};
 ghost use Rattle.octets.specs.Lists.{over, Appended};
 ghost use Rattle.hexline.specs.Line.{is_gap, has_mark, size_of, is_piece, octet_in, octets_of, place_from, parsed_of, left};
 ghost use Rattle.hexline.specs.Inner.{Next};
 
 // So many octets; or the place of the first character that will not do, counted from 0; or more octets than there is room for.
-#[derive(Drop)]
+#[derive(Clone, Copy)]
 pub enum Parsed {
     Octets(usize),
     BadAt(usize),

@@ -1,4 +1,5 @@
 // The arithmetic of responses (RFC 2759, 8).
+#![tactic(auto)]
 ghost use Rattle.std.specs.Prelude.{◌≡◌, ◌++◌, ◌*◌, ◌+◌, ◌≤◌, ◌<◌, length, take};
 ghost use Rattle.octets.specs.Lists.{cells, over};
 ghost use Rattle.digest.specs.Md4.{md4_of};
@@ -9,34 +10,34 @@ ghost use Rattle.mschap.specs.Answers.{password_hash_told, user_told, challenge_
 
 use answer::{Answer, Refusal};
 
-#[derive(Drop)]
+#[derive(Clone, Copy)]
 pub struct PasswordHash {
     pub answer: Answer,
     pub octets: [u8; 16],
 }
 
 // The user's place in a name.
-#[derive(Drop)]
+#[derive(Clone, Copy)]
 pub struct User {
     pub answer: Answer,
     pub start: usize,
     pub len: usize,
 }
 
-#[derive(Drop)]
+#[derive(Clone, Copy)]
 pub struct ChallengeHash {
     pub answer: Answer,
     pub octets: [u8; 8],
 }
 
-#[derive(Drop)]
+#[derive(Clone, Copy)]
 pub struct NtResponse {
     pub answer: Answer,
     pub octets: [u8; 24],
 }
 
 // The authenticator string.
-#[derive(Drop)]
+#[derive(Clone, Copy)]
 pub struct Authenticator {
     pub answer: Answer,
     pub octets: [u8; 20],

@@ -1,11 +1,12 @@
 // Octets of slices: total helpers, whatever the slice and the place.
+#![tactic(auto)]
 ghost use Rattle.std.specs.Prelude.{◌≡◌, ◌<◌, ◌≤◌, length, get_or, take, drop};
 ghost use Rattle.octets.specs.Lists.{cells, sized, put, Appended};
 ghost use Rattle.octets.specs.Octets.{octet_is, stands_at, same, pair_of, number_at, is_hex, all_hex, hex_stands, hex_value, hex_digit, hex_at, unhex_at, is_digit, digits, digit_value, number, decimal};
 ghost use Rattle.octets.specs.Inner.{DigitsFrom};
 
 // The order of a number's octets: the low one first, or the high one first.
-#[derive(Drop)]
+#[derive(Clone, Copy)]
 pub enum Order {
     Little,
     Big,
@@ -346,7 +347,7 @@ pub fn number_of(s: &[u8]) -> u64
 }
 
 // A number's decimal digits: the last of ten octets, from start.
-#[derive(Drop)]
+#[derive(Clone, Copy)]
 struct Decimal {
     digits: [u8; 10],
     start: usize,

@@ -1,4 +1,5 @@
 // The packets of document 01, "Packet forms", and their reader.
+#![tactic(auto)]
 ghost use Rattle.std.specs.Prelude.{◌≡◌, false, not, ◌&&◌, ◌||◌, ◌+◌, ◌-◌, ◌≤◌, length, get_or, drop, ltb, leb, eqb};
 ghost use Rattle.octets.specs.Lists.{cells, sized, part};
 ghost use Rattle.octets.specs.Octets.{octet_is, number_at, number, unhex_at};
@@ -47,14 +48,14 @@ const NT_RESPONSE: Place = Place {
 const STRING: Place = Place { start: 11, len: 40 };
 
 // The end that a packet is read for.
-#[derive(Drop)]
+#[derive(Clone, Copy)]
 pub enum End {
     Peer,
     Server,
 }
 
 // A Failure Request has R=0, a Retry Request is a Failure Request with R=1.
-#[derive(Drop)]
+#[derive(Clone, Copy)]
 pub enum Kind {
     Challenge,
     Response,
@@ -92,14 +93,14 @@ pub fn is_kind(a: Kind, b: Kind) -> bool
 }
 
 // Where a part of a packet lies.
-#[derive(Drop)]
+#[derive(Clone, Copy)]
 pub struct Place {
     pub start: usize,
     pub len: usize,
 }
 
 // What a packet says. A number that its kind does not have is 0, and so are start and length of such a place.
-#[derive(Drop)]
+#[derive(Clone, Copy)]
 pub struct Packet {
     pub kind: Kind,
     pub id: Identifier,
@@ -116,14 +117,14 @@ pub struct Packet {
     pub tail: Place,
 }
 
-#[derive(Drop)]
+#[derive(Clone, Copy)]
 pub enum Reading {
     Refused(Refusal),
     Read(Packet),
 }
 
 // L, or why the octets lent hold no packet of L octets.
-#[derive(Drop)]
+#[derive(Clone, Copy)]
 pub enum Framed {
     Refused(Refusal),
     Of(usize),

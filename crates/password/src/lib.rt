@@ -1,4 +1,5 @@
 // A password in UTF-8: its UTF-16 units and its hash.
+#![tactic(auto)]
 ghost use Rattle.std.specs.Prelude.{◌≡◌, ◌-◌, ◌≤◌, length};
 ghost use Rattle.password.specs.Utf8.{size_by, within, lowest, highest, is_tail, size_with, size_of, is_utf8};
 ghost use Rattle.password.specs.Utf16.{point_of_two, point_of_three, point_of_four, point_with, point_of, first_unit, second_unit, units_of, stride_of, utf16};
@@ -6,7 +7,7 @@ ghost use Rattle.password.specs.Inner.{Converted};
 ghost use Rattle.password.specs.Hashed.{hashed_of};
 
 // What a password's octets are: up to 256 units in UTF-8, no UTF-8, or more units.
-#[derive(Drop)]
+#[derive(Clone, Copy)]
 pub enum Spelling {
     Good,
     NotUtf8,
@@ -14,14 +15,14 @@ pub enum Spelling {
 }
 
 // Where the spelling is not Good, the hash is zeros.
-#[derive(Drop)]
+#[derive(Clone, Copy)]
 pub struct Hashed {
     pub spelling: Spelling,
     pub hash: [u8; 16],
 }
 
 // The units at the front of an array; more than 256 count as 257.
-#[derive(Drop)]
+#[derive(Clone, Copy)]
 struct Units {
     units: [u16; 258],
     count: usize,

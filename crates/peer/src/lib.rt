@@ -1,4 +1,5 @@
 // The peer's end: document 01, "The logger's moves (peer)".
+#![tactic(auto)]
 ghost use Rattle.std.specs.Prelude.{◌≡◌, [], ◌≤◌, length, take, eqb};
 ghost use Rattle.octets.specs.Choice.{pick};
 ghost use Rattle.octets.specs.Octets.{same};
@@ -20,7 +21,7 @@ use answer::{Answer, ChapId, Identifier, Refusal};
 use packet::{End, Kind, Packet, Place, Reading, is_kind};
 use writers::Written;
 
-#[derive(Drop)]
+#[derive(Clone, Copy)]
 pub enum Stage {
     Begin,
     ChallengeResponseSent,
@@ -32,7 +33,7 @@ pub enum Stage {
 }
 
 // What a stage makes of a packet.
-#[derive(Drop)]
+#[derive(Clone, Copy)]
 enum Move {
     NotTaken,
     WrongIdentifier,
@@ -47,7 +48,7 @@ enum Move {
 
 // Of each array with a length the octets past it are zero; a length past its array counts as the array's. The length stands
 // first: with no padding before the name the compiler copies it at once.
-#[derive(Drop)]
+#[derive(Clone, Copy)]
 pub struct Credentials {
     pub namelen: u16,
     pub name: [u8; Peer::MAX_NAME],
@@ -56,7 +57,7 @@ pub struct Credentials {
 
 // The last Response's challenges and MS-CHAPv2-ID, and the authenticator string that is to answer it; in WAITING the
 // authenticator's challenge is C.
-#[derive(Drop)]
+#[derive(Clone, Copy)]
 pub struct Challenges {
     pub authenticator: [u8; 16],
     pub own: [u8; 16],
@@ -65,7 +66,7 @@ pub struct Challenges {
 }
 
 // The state.
-#[derive(Drop)]
+#[derive(Clone, Copy)]
 pub struct Peer {
     pub stage: Stage,
     pub credentials: Credentials,
@@ -77,7 +78,7 @@ pub struct Peer {
     pub replylen: u16,
 }
 
-#[derive(Drop)]
+#[derive(Clone, Copy)]
 pub struct PeerStep {
     pub answer: Answer,
     pub n: usize,
@@ -235,7 +236,7 @@ fn user_in(name: &[u8]) -> &[u8]
 }
 
 // What a Response is made of, beside the name.
-#[derive(Drop)]
+#[derive(Clone, Copy)]
 struct Keys {
     authenticator: [u8; 16],
     own: [u8; 16],

@@ -1,1 +1,2 @@
 // The promises on one page: statements and their proofs, and no code of its own.
+#![tactic(auto)]

@@ -1,4 +1,5 @@
 // Account tables made of lines of text: document 01, "Account table".
+#![tactic(auto)]
 ghost use Rattle.std.specs.Prelude.{◌≡◌, ◌≤◌, length, take, drop};
 ghost use Rattle.octets.specs.Lists.{cells};
 ghost use Rattle.octets.specs.Octets.{unhex_at};
@@ -8,7 +9,7 @@ ghost use Rattle.roster.specs.Made.{is_account, is_fault, added_line, Makes, Mad
 use password::Spelling;
 
 // What a line is: blank, an account, or what is wrong with it. Full: its record no longer fits the table.
-#[derive(Drop)]
+#[derive(Clone, Copy)]
 pub enum Line {
     Blank,
     Account,
@@ -23,14 +24,14 @@ pub enum Line {
 }
 
 // A password's hash, or what is wrong with the password.
-#[derive(Drop)]
+#[derive(Clone, Copy)]
 pub struct Secret {
     pub line: Line,
     pub hash: [u8; 16],
 }
 
 // What a line says. The name is the line's first octets.
-#[derive(Drop)]
+#[derive(Clone, Copy)]
 pub struct Entry {
     pub line: Line,
     pub code: u16,
@@ -39,7 +40,7 @@ pub struct Entry {
 }
 
 // What was made of a line: how long the table is after it.
-#[derive(Drop)]
+#[derive(Clone, Copy)]
 struct AfterLine {
     line: Line,
     len: usize,
@@ -47,7 +48,7 @@ struct AfterLine {
 
 // What was made of a text: how long the table is, and how many lines were read. ended: Blank where that was all of them, and
 // else what is wrong with the last.
-#[derive(Drop)]
+#[derive(Clone, Copy)]
 pub struct Made {
     pub ended: Line,
     pub lines: usize,

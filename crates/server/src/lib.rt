@@ -1,4 +1,5 @@
 // The server's end: start, packet and resend, each on the state by value.
+#![tactic(auto)]
 ghost use Rattle.std.specs.Prelude.{◌≡◌, ◌≤◌, true, length, ◌==◌};
 ghost use Rattle.octets.specs.Choice.{pick};
 ghost use Rattle.answer.specs.Answer.{number_of, refusal_of};
@@ -17,7 +18,7 @@ use packet::{End, Kind, Packet, Reading, is_kind};
 use verdict::{Mark, Verdict};
 use writers::Written;
 
-#[derive(Drop)]
+#[derive(Clone, Copy)]
 pub enum Stage {
     Begin,
     ChallengeSent,
@@ -28,7 +29,7 @@ pub enum Stage {
 }
 
 // A request: its Identifier and MS-CHAPv2-ID, the challenge that is outstanding with it, and its octets.
-#[derive(Drop)]
+#[derive(Clone, Copy)]
 pub struct Request {
     pub id: Identifier,
     pub chapid: ChapId,
@@ -38,7 +39,7 @@ pub struct Request {
 }
 
 // The retries left, and the outstanding request.
-#[derive(Drop)]
+#[derive(Clone, Copy)]
 pub struct Server {
     pub stage: Stage,
     pub retries: u8,
@@ -46,7 +47,7 @@ pub struct Server {
 }
 
 // What a call answers: n octets of the reply buffer are written, and the state after it.
-#[derive(Drop)]
+#[derive(Clone, Copy)]
 pub struct ServerStep {
     pub answer: Answer,
     pub n: usize,
@@ -54,7 +55,7 @@ pub struct ServerStep {
 }
 
 // A Failure Request's E and R, and the stage and the retries left after it.
-#[derive(Drop)]
+#[derive(Clone, Copy)]
 struct Failure {
     stage: Stage,
     retries: u8,
@@ -63,7 +64,7 @@ struct Failure {
 }
 
 // What a verdict brings: a refusal, the Success Request, or a Failure Request.
-#[derive(Drop)]
+#[derive(Clone, Copy)]
 enum Due {
     Refused(Refusal),
     Success,

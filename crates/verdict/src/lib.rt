@@ -1,4 +1,5 @@
 // The verdict on a Response: the only code that looks into the account table.
+#![tactic(auto)]
 ghost use Rattle.std.specs.Prelude.{◌≡◌, true, not, ◌≤◌, length, eqb};
 ghost use Rattle.octets.specs.Octets.{same};
 ghost use Rattle.answer.specs.Sizes.{max_name};
@@ -7,7 +8,7 @@ ghost use Rattle.verdict.specs.Inner.{weighed};
 ghost use Rattle.verdict.specs.Verdict.{judge_user, judge_of};
 
 // Malformed is the mark of a table, Wrong and Right are marks of a Response.
-#[derive(Drop)]
+#[derive(Clone, Copy)]
 pub enum Mark {
     Malformed,
     Wrong,
@@ -15,7 +16,7 @@ pub enum Mark {
 }
 
 // Where the mark is Right, the account's code and the authenticator string's octets, and else zeros.
-#[derive(Drop)]
+#[derive(Clone, Copy)]
 pub struct Verdict {
     pub mark: Mark,
     pub code: u16,

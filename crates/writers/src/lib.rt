@@ -1,4 +1,5 @@
 // The stateless writers, one for each row of the packet table, and one for octets that were written before.
+#![tactic(auto)]
 ghost use Rattle.std.specs.Prelude.{◌≡◌, true, ◌+◌, ◌≤◌, length};
 ghost use Rattle.octets.specs.Lists.{Appended};
 ghost use Rattle.octets.specs.Octets.{decimal};
@@ -11,7 +12,7 @@ ghost use Rattle.writers.specs.Writers.{sends, writing, write_challenge, write_r
 use answer::{Answer, ChapId, Identifier, Refusal};
 
 // The answer, and L of the packet written, or 0.
-#[derive(Drop)]
+#[derive(Clone, Copy)]
 pub struct Written {
     pub answer: Answer,
     pub n: usize,

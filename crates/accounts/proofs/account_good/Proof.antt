@@ -14,4 +14,4 @@ account_good_spec =
     (λ c κs. search rules)
     (λ c. search rules)
     (λ c κs. search rules)
-    (λ c. search (exits, ← c.before.code_of_lem.ensures)))
+    (λ c. search (exits, ← c.before.code_of.ensures)))

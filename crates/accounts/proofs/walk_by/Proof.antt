@@ -19,7 +19,7 @@ walk_by_spec =
     (λ c. search walks)
     (λ c κs. (
       search walks,
-      good_formed _ (gave_true _ _ c.before.item-good.ensures c.if2.false),
+      good_formed _ (gave_true _ _ c.before.item_good.ensures c.if-not-item_good.false),
       c.before.before.before.before.before.before.before.before.before.before.requires.0,
       c.before.before.before.before.before.before.before.before.before.before.requires.1,
     ))

@@ -10,5 +10,5 @@ next_spec =
     (tie.spec
     (λ c κs. search rules)
     (λ c κs. search rules)
-    (λ c. let p = c.before.rest.ensures in let q = c.size_of.ensures in omega (arith, (next_of _ _ _ _ c.before.before.before.requires p q.0 q.1).inside))
+    (λ c. let p = c.before.rest.ensures in let q = c.size_of-size.ensures in omega (arith, (next_of _ _ _ _ c.before.before.before.requires p q.0 q.1).inside))
     (λ c. search (rules, next_of)))

@@ -12,4 +12,4 @@ bad_ms_length_spec =
     (λ c. search (rules, or_first, lt-ltb))
     (λ c κs. search rules)
     (λ c. search rules)
-    (λ c. search (rules, or_else, le-ltb, ← c.number_at.ensures)))
+    (λ c. search (rules, or_else, le-ltb, ← c.number_at-m.ensures)))

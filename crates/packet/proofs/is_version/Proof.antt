@@ -11,4 +11,4 @@ is_version_spec =
     (λ c κs. search rules)
     (λ c. search (rules, gave_false, and_first))
     (λ c κs. search rules)
-    (λ c. search (exits, and_then, gave_true, ← c.decimal-at.ensures)))
+    (λ c. search (exits, and_then, gave_true, ← c.decimal_at-v.ensures)))

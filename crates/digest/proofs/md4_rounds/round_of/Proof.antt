@@ -23,5 +23,5 @@ round_of_spec =
     (λ c κs. search md4_loops)
     (λ c. search md4_loops)
     (λ c. search md4_loops)
-    (λ c. turn_more c.before.before.before.loop.invariant c.before.before.loop-test.true c.operation-of.ensures refl)
+    (λ c. turn_more c.before.before.before.loop-t.invariant c.before.before.loop-t-test.true c.operation_of-q.ensures refl)
     (λ c. search md4_loops))

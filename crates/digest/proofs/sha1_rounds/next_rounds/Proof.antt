@@ -29,4 +29,4 @@ next_rounds_spec =
     (λ c. search sha1_loops)
     (λ c. search sha1_loops)
     (λ c. search sha1_loops)
-    (λ c. (search sha1_loops, ring_words c.before.loop.invariant c.loop-test.false, ring_done c.before.loop.invariant c.loop-test.false)))
+    (λ c. (search sha1_loops, ring_words c.before.loop-k.invariant c.loop-k-test.false, ring_done c.before.loop-k.invariant c.loop-k-test.false)))
