@@ -11,4 +11,4 @@ sha1_spec =
     (tie.spec
     (λ c. search exits)
     (λ c κs. search rules)
-    (λ c. search (exits, ← c.digest.ensures)))
+    (λ c. search (exits, ← c.digest-octets.ensures)))

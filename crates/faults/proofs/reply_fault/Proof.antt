@@ -10,7 +10,7 @@ reply_fault_spec =
     (tie.spec
     (λ c κs. search exits)
     (λ c κs. search exits)
-    (λ c. search (exits, ← c.before.response-fault.ensures))
+    (λ c. search (exits, ← c.before.response_fault.ensures))
     (λ c κs. search exits)
     (λ c. search exits)
     (λ c κs. search exits)

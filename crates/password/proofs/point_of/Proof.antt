@@ -13,4 +13,4 @@ point_of_spec =
     (λ c κs. search rules)
     (λ c κs. search rules)
     (λ c κs. search rules)
-    (λ c. (cc, c.point-with.ensures.1)))
+    (λ c. (cc, c.point_with.ensures.1)))

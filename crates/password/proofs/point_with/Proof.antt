@@ -11,7 +11,7 @@ unfolding point_with
 point_with_spec =
     tie.close
     (tie.spec
-    (λ c. (sym (pick_true _ _ _ (lt-ltb _ _ c.if1.true)), search rules))
+    (λ c. (sym (pick_true _ _ _ (lt-ltb _ _ c.if-n-lt2.true)), search rules))
     (λ c κs. search rules)
     (λ c. search exits)
     (λ c κs. search rules)

@@ -14,4 +14,4 @@ size_of_spec =
     (λ c κs. search rules)
     (λ c κs. search rules)
     (λ c κs. search rules)
-    (λ c. (cc, c.size-with.ensures.1)))
+    (λ c. (cc, c.size_with.ensures.1)))

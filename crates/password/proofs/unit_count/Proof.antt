@@ -12,5 +12,5 @@ unfolding units_of
 unit_count_spec =
     tie.close
     (tie.spec
-    (λ c. (sym (ap length (pick_true _ _ _ (lt-ltb _ _ c.if1.true))), omega arith, omega arith))
-    (λ c. (sym (ap length (pick_false _ _ _ (le-ltb _ _ c.if1.false))), omega arith, omega arith)))
+    (λ c. (sym (ap length (pick_true _ _ _ (lt-ltb _ _ c.if-p-lt65536.true))), omega arith, omega arith))
+    (λ c. (sym (ap length (pick_false _ _ _ (le-ltb _ _ c.if-p-lt65536.false))), omega arith, omega arith)))

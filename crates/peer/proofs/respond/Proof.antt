@@ -12,4 +12,4 @@ respond_spec =
     (λ c κs. search rules)
     (λ c κs. search rules)
     (λ c. search rules)
-    (λ c. does_by _ _ _ _ _ _ _ c.before.before.send-response.ensures (cc)))
+    (λ c. does_by _ _ _ _ _ _ _ c.before.before.send_response.ensures (cc)))

@@ -13,4 +13,4 @@ decode_peer_spec =
     (λ c κs. search rules)
     (λ c. search rules)
     (λ c κs. search rules)
-    (λ c. c.peer-in.ensures ∙ ap peer_of c.before.before.before.fill.ensures ∙ peer_sized _))
+    (λ c. c.peer_in.ensures ∙ ap peer_of c.before.before.before.fill.ensures ∙ peer_sized _))

@@ -48,7 +48,7 @@ encode_peer_spec =
     let numbers = hash.before.before.before.before.before.before.before in
     let made = numbers.before.before.before in
     stored_all
-    (more (appended_by _ _ _ _ _ _ numbers.append.ensures made.peer-numbers.ensures)
+    (more (appended_by _ _ _ _ _ _ numbers.append.ensures made.peer_numbers.ensures)
     (more hash.append2.ensures
     (more authenticator.append3.ensures
     (more own.append4.ensures

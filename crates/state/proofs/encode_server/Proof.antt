@@ -28,7 +28,7 @@ encode_server_spec =
     let numbers = challenge.before.before.before.before.before.before.before in
     let made = numbers.before.before.before in
     stored_all
-    (more (appended_by _ _ _ _ _ _ numbers.append.ensures made.server-numbers.ensures)
+    (more (appended_by _ _ _ _ _ _ numbers.append.ensures made.server_numbers.ensures)
     (more challenge.append2.ensures
     (more request.append3.ensures none)))
     made.before.if1.false

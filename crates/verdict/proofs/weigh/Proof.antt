@@ -11,7 +11,7 @@ weigh_spec =
     tie.close
     (tie.spec
     (λ c κs. search rules)
-    (λ c. weigh_wrong _ _ _ _ _ _ _ _ c.before.before.before.requires c.before.is-computed.ensures c.if1.true)
+    (λ c. weigh_wrong _ _ _ _ _ _ _ _ c.before.before.before.requires c.before.is_computed.ensures c.if1.true)
     (λ c. search exits)
     (λ c κs. known_so _ c.before.before.before.before.requires c.if2.false)
-    (λ c. weigh_right _ _ _ _ _ _ _ _ c.before.before.before.before.before.requires c.before.before.before.is-computed.ensures _ c.before.before.if1.false c.before.if2.false c.string-of.ensures))
+    (λ c. weigh_right _ _ _ _ _ _ _ _ c.before.before.before.before.before.requires c.before.before.before.is_computed.ensures _ c.before.before.if1.false c.before.if2.false c.string_of.ensures))

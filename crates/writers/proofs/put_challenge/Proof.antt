@@ -24,5 +24,5 @@ put_challenge_spec =
     laid_done name.append3.ensures
     (laid_more challenge.append2.ensures
     (laid_more size.append.ensures
-    (laid_more head.put-header.ensures
+    (laid_more head.put_header.ensures
     (laid_challenge _ _ _ _ _ start.requires.0 start.requires.2))))))

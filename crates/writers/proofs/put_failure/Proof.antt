@@ -38,11 +38,11 @@ put_failure_spec =
     let start = head.before.before.before.before.before in
     laid_done text.append6.ensures
     (laid_more vm.append5.ensures
-    (laid_more digits.append-hex.ensures
+    (laid_more digits.append_hex.ensures
     (laid_more c1.append4.ensures
     (laid_more retry.append3.ensures
     (laid_more r.append2.ensures
-    (laid_more code.append-decimal.ensures
+    (laid_more code.append_decimal.ensures
     (laid_more e.append.ensures
-    (laid_more head.put-header.ensures
+    (laid_more head.put_header.ensures
     (laid_failure _ _ _ _ _ _ _ _ start.requires.0 start.requires.3)))))))))))

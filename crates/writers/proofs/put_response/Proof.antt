@@ -35,5 +35,5 @@ put_response_spec =
     (laid_more zeros.append3.ensures
     (laid_more peer.append2.ensures
     (laid_more size.append.ensures
-    (laid_more head.put-header.ensures
+    (laid_more head.put_header.ensures
     (laid_response _ _ _ _ _ _ start.requires.0 start.requires.1 start.requires.3)))))))))

@@ -26,7 +26,7 @@ put_success_spec =
     let start = head.before.before.before.before.before in
     laid_done text.append3.ensures
     (laid_more m.append2.ensures
-    (laid_more digits.append-hex.ensures
+    (laid_more digits.append_hex.ensures
     (laid_more s.append.ensures
-    (laid_more head.put-header.ensures
+    (laid_more head.put_header.ensures
     (laid_success _ _ _ _ _ start.requires.1)))))))

@@ -20,10 +20,10 @@ resume_spec =
     (λ c κs. search rules)
     (λ c κs. search (rules, cut_short, response_short))
     (λ c κs.
-    let sent = c.before.before.before.before.before.send-response.ensures in (
+    let sent = c.before.before.before.before.before.send_response.ensures in (
       search rules,
       cut_short _ _ _ reply_room _ _ _ sent (search (rules, response_short, sixteen)) c.before.part.ensures,
-      resume_keeps _ _ _ _ _ _ _ _ _ _ _ _ sent c.before.part.ensures c.string-in.ensures (search (sixteen)),
+      resume_keeps _ _ _ _ _ _ _ _ _ _ _ _ sent c.before.part.ensures c.string_in.ensures (search (sixteen)),
     ))
     (λ c. search rules)
     (λ c. record { does = search (rules, resume_so); told = refl }))

@@ -14,4 +14,4 @@ step_spec =
     (λ c κs. search rules)
     (λ c κs. rw c.before.read.ensures (read_within _ _))
     (λ c. search rules)
-    (λ c. stepped_by _ _ _ _ _ _ _ c.before.before.take-reading.ensures (cc) (cc)))
+    (λ c. stepped_by _ _ _ _ _ _ _ c.before.before.take_reading.ensures (cc) (cc)))

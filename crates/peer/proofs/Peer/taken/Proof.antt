@@ -38,8 +38,8 @@ taken_spec =
     let named = x.before.before.named.ensures in
     let sent = c.before.before.part.ensures in (
       within start,
-      cut_short _ _ _ reply_room _ _ _ x.answer-to.ensures (answer_short _ _ _ _ _ _ p.replylen p.reply (response_short _ _ _ _ _ _ (sixteen start) named.few) y.first2.ensures (stored start)) sent,
-      taken_keeps _ _ _ _ _ _ _ _ _ _ _ _ _ _ _ _ x.answer-to.ensures sent c.before.string-after.ensures (sixteen start) named,
+      cut_short _ _ _ reply_room _ _ _ x.answer_to.ensures (answer_short _ _ _ _ _ _ p.replylen p.reply (response_short _ _ _ _ _ _ (sixteen start) named.few) y.first2.ensures (stored start)) sent,
+      taken_keeps _ _ _ _ _ _ _ _ _ _ _ _ _ _ _ _ x.answer_to.ensures sent c.before.string_after.ensures (sixteen start) named,
     ))
     (λ c. search rules)
     (λ c.
@@ -47,5 +47,5 @@ taken_spec =
     let y = x.before.before.before.before.before in
     let z = y.before.before.before.before in
     stepped _ _ _ _ _
-    (taken_so _ _ _ _ _ _ _ _ _ _ _ _ _ _ z.before.first.ensures z.turn_in.ensures x.before.before.named.ensures y.first2.ensures x.answer-to.ensures c.before.before.before.part.ensures c.after.ensures)
-    c.before.text-by.ensures))
+    (taken_so _ _ _ _ _ _ _ _ _ _ _ _ _ _ z.before.first.ensures z.turn_in.ensures x.before.before.named.ensures y.first2.ensures x.answer_to.ensures c.before.before.before.part.ensures c.after.ensures)
+    c.before.text_by.ensures))

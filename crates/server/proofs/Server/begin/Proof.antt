@@ -15,9 +15,9 @@ begin_spec =
     (λ c κs. search rules)
     (λ c κs.
     let s = c.before.before.before.before.before.before.before.before in
-    sent_few _ _ _ _ _ c.before.before.before.before.challenge-request.ensures _ (challenge_fits _ _ _ _ (size s) (start_named _ _ s.requires)) c.part.ensures)
+    sent_few _ _ _ _ _ c.before.before.before.before.challenge_request.ensures _ (challenge_fits _ _ _ _ (size s) (start_named _ _ s.requires)) c.part.ensures)
     (λ c. search rules)
     (λ c.
     let s = c.before.before.before.before.before.before.before.before.before in
-    sent_asks _ _ _ _ _ c.before.before.before.before.before.challenge-request.ensures _ _ _ _ _ _ _ _ _
+    sent_asks _ _ _ _ _ c.before.before.before.before.before.challenge_request.ensures _ _ _ _ _ _ _ _ _
     (challenge_fits _ _ _ _ (size s) (start_named _ _ s.requires)) c.before.part.ensures c.ask.ensures))

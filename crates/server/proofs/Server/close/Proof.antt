@@ -10,4 +10,4 @@ close_spec =
     (λ c κs. search rules)
     (λ c κs. search rules)
     (λ c κs. search rules)
-    (λ c. (c.before.before.answer-after.ensures, (refl, restaged _ _ _ _ c.at.ensures c.before.stage-after.ensures))))
+    (λ c. (c.before.before.answer_after.ensures, (refl, restaged _ _ _ _ c.at.ensures c.before.stage_after.ensures))))

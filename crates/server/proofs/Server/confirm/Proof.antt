@@ -10,4 +10,4 @@ confirm_spec =
     (λ c κs. search rules)
     (λ c κs. search rules)
     (λ c. search rules)
-    (λ c. closed_by _ _ _ _ _ _ _ _ _ _ _ c.before.before.before.write-eap-success.ensures refl c.close.ensures))
+    (λ c. closed_by _ _ _ _ _ _ _ _ _ _ _ c.before.before.before.write_eap_success.ensures refl c.close.ensures))

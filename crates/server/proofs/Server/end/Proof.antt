@@ -10,4 +10,4 @@ end_spec =
     (λ c κs. search rules)
     (λ c κs. search rules)
     (λ c. search rules)
-    (λ c. closed_by _ _ _ _ _ _ _ _ _ _ _ c.before.before.before.write-eap-failure.ensures refl c.close.ensures))
+    (λ c. closed_by _ _ _ _ _ _ _ _ _ _ _ c.before.before.before.write_eap_failure.ensures refl c.close.ensures))

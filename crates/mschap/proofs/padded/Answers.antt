@@ -1,0 +1,7 @@
+use Rattle.mschap.specs.Responses.{padding}
+use borrow.Author.Rules.{rules}
+use Rattle.mschap.proofs.padded.Goals as goal
+
+pub returns : goal.returns
+unfolding padding
+returns c = cc

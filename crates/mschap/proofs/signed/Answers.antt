@@ -1,0 +1,7 @@
+use Rattle.mschap.specs.Responses.{magic}
+use borrow.Author.Rules.{rules}
+use Rattle.mschap.proofs.signed.Goals as goal
+
+pub returns : goal.returns
+unfolding magic
+returns c = cc
