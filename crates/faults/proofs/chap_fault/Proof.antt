@@ -11,5 +11,5 @@ chap_fault_spec =
     (λ c. search exits)
     (λ c κs. search exits)
     (λ c. search exits)
-    (λ c. search (exits, ← c.before.number_at.ensures))
-    (λ c. search (exits, ← c.before.number_at.ensures)))
+    (λ c. search (exits, ← c.before.number_at-m.ensures))
+    (λ c. search (exits, ← c.before.number_at-m.ensures)))

@@ -13,7 +13,7 @@ failure_fault_spec =
     (tie.spec
     (λ c κs. search rules)
     (λ c κs. search rules)
-    (λ c. let h : c.digits_of.result ≤ max_packet = search (rules, digits_most) in search rules)
+    (λ c. let h : c.digits_of-e.result ≤ max_packet = search (rules, digits_most) in search rules)
     (λ c κs. search rules)
     (λ c κs. search rules)
     (λ c κs. search (rules, digits_most))

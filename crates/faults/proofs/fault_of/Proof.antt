@@ -17,4 +17,4 @@ fault_of_spec =
     (λ c κs. search exits)
     (λ c κs. search exits)
     (λ c κs. search (exits, cut_most))
-    (λ c. search (exits, ← c.before.octet.ensures, ← c.before.before.part.ensures, ← c.before.before.before.before.before.before.number_at.ensures)))
+    (λ c. search (exits, ← c.before.octet.ensures, ← c.before.before.part-q.ensures, ← c.before.before.before.before.before.before.number_at-l.ensures)))

@@ -14,6 +14,6 @@ typed_fault_spec =
     (λ c. search exits)
     (λ c κs. search exits)
     (λ c κs. search exits)
-    (λ c. search (exits, ← c.before.before.octet.ensures))
+    (λ c. search (exits, ← c.before.before.octet-op.ensures))
     (λ c κs. search exits)
-    (λ c. search (exits, ← c.before.before.octet.ensures)))
+    (λ c. search (exits, ← c.before.before.octet-op.ensures)))

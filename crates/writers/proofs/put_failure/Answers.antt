@@ -1,0 +1,8 @@
+use Rattle.octets.proofs.Appends.{laid_more, laid_done}
+use Rattle.writers.proofs.Layouts.{laid_failure}
+use native.Mathlib.Omega.{arith}
+use borrow.Author.Rules.{rules}
+use Rattle.writers.proofs.put_failure.Goals as goal
+
+pub returns : goal.returns
+returns c = search rules
