@@ -1,68 +1,109 @@
 // What the programs read, and what they put on the screen.
-ghost use Rattle.std.specs.Prelude.{◌≡◌, ◌*◌, ◌≤◌, length};
+#![tactic(auto)]
+
+ghost use Rattle.std.specs.Prelude.{◌≡◌, ◌*◌, ◌≤◌, length, IfSome, MatchResult};
+ghost use Rattle.std.specs.Str.{IsUtf8};
 ghost use Rattle.octets.specs.Lists.{cells, Appended};
 ghost use Rattle.console.specs.Reads.{Leaves};
 ghost use Rattle.console.specs.Inner.{spaced_at, escaped, shown_plain, shown_as, visible, Fronts};
 
-use libc::{STDERR_FILENO, STDIN_FILENO, STDOUT_FILENO};
+use std::env::{Env, FillError};
+use std::fmt::Write;
+use std::io::{Error, ErrorKind, Input, Read};
+use std::rt::Files;
+use std::{fmt, fs};
+
+const STDOUT: i32 = 1;
+
+const STDERR: i32 = 2;
 
 // A file as it was read: not opened, not read whole, or so many octets at the front of a buffer.
-#[derive(Drop)]
+#[derive(Clone, Copy)]
 pub enum File {
     Unopened,
     Unread,
     Read(usize),
 }
 
+// ---- arguments
+
+// How many arguments the program has, its own name among them.
+pub fn arg_count<R: Env>(rt: &R) -> usize {
+    let mut none = [0u8; 0];
+    for i in 0..usize::MAX {
+        match rt.arg(i, &mut none) {
+            Err(FillError::NotPresent) => return i,
+            _ => {}
+        }
+    }
+    usize::MAX
+}
+
+// An argument at the front of a buffer, and how many octets it has; or none, where it is missing or longer than the buffer.
+pub fn arg<R: Env>(rt: &R, i: usize, buffer: &mut [u8]) -> Option<usize>
+    ensures { IfSome result (λ n. n ≤ length buffer.new) }
+{
+    match rt.arg(i, buffer) {
+        Ok(n) => Some(n),
+        Err(_) => None,
+    }
+}
+
 // ---- reading
 
-// What could not be done, and the cause that errno has.
-fn blame(what: &[u8], not: &[u8]) {
-    complain(what);
-    os::fail(not);
+// A path as the library takes it, which has to be UTF-8.
+pub fn path_of(path: &[u8]) -> std::io::Result<&str>
+    ensures { MatchResult result (λ text. text.now ≡ path.now) (λ _. IsUtf8 path.now → ⊥) }
+{
+    match std::str::from_utf8(path) {
+        Ok(text) => Ok(text),
+        Err(_) => Err(Error::from(ErrorKind::InvalidFilename)),
+    }
 }
 
 // Reads to the end of the file, or until the buffer is full. A read that fails is not the end: where it was a signal that
 // interrupted it, too, the file counts as unread.
-fn read_open(what: &[u8], fd: i32, buffer: &mut [u8]) -> File
+fn read_open<F: Read>(what: &[u8], file: &mut F, buffer: &mut [u8]) -> File
     ensures { Leaves result buffer.old buffer.new }
 {
     let mut n = 0;
     while n < buffer.len() {
-        let got = libc::read(fd, &mut buffer[n..]);
-        if got < 0 {
-            blame(what, b" cannot be read");
-            return File::Unread;
+        match file.read(&mut buffer[n..]) {
+            Ok(0) => return File::Read(n),
+            Ok(more) => n += more,
+            Err(cause) => {
+                blame(what, b" cannot be read", cause);
+                return File::Unread;
+            }
         }
-        let more = io::count(got, &buffer[n..]);
-        if more == 0 {
-            return File::Read(n);
-        }
-        n += more;
     }
     File::Read(n)
 }
 
+fn open<R: Files>(rt: &R, path: &[u8]) -> std::io::Result<R::File> {
+    fs::open(rt, path_of(path)?)
+}
+
 // The file at a path, or as much of it as the buffer takes. Where it cannot be read so far, says so on standard error, with
 // `what` for its name and with the cause.
-pub fn read(what: &[u8], path: &[u8], buffer: &mut [u8]) -> File
+pub fn read<R: Files>(rt: &R, what: &[u8], path: &[u8], buffer: &mut [u8]) -> File
     ensures { (what.now ≡ what.now) × (path.now ≡ path.now) × Leaves result buffer.old buffer.new }
 {
-    let fd = os::open_read(path);
-    if fd < 0 {
-        blame(what, b" cannot be opened");
-        return File::Unopened;
+    match open(rt, path) {
+        Ok(mut file) => read_open(what, &mut file, buffer),
+        Err(cause) => {
+            blame(what, b" cannot be opened", cause);
+            File::Unopened
+        }
     }
-    let file = read_open(what, fd, buffer);
-    libc::close(fd);
-    file
 }
 
 // Standard input, in the same way.
-pub fn read_input(what: &[u8], buffer: &mut [u8]) -> File
+pub fn read_input<R: Input>(rt: &R, what: &[u8], buffer: &mut [u8]) -> File
     ensures { (what.now ≡ what.now) × Leaves result buffer.old buffer.new }
 {
-    read_open(what, STDIN_FILENO, buffer)
+    let mut input = rt.reader();
+    read_open(what, &mut input, buffer)
 }
 
 // ---- complaints, on standard error
@@ -71,14 +112,68 @@ pub fn read_input(what: &[u8], buffer: &mut [u8]) -> File
 pub fn complain(text: &[u8])
     ensures { text.now ≡ text.now }
 {
-    io::write_all(STDERR_FILENO, text);
+    io::write_all(STDERR, text);
 }
 
 // A number in decimal.
 pub fn complain_number(n: u64)
     ensures { result ≡ tt }
 {
-    io::print_decimal(STDERR_FILENO, n);
+    io::print_decimal(STDERR, n);
+}
+
+// Text in a space of its own; what does not fit is dropped.
+#[derive(Drop)]
+struct Text {
+    octets: [u8; 256],
+    len: usize,
+}
+
+impl fmt::Write for Text {
+    fn write_str(&mut self, s: &str) -> fmt::Result {
+        for x in s.as_bytes() {
+            if self.len < 256 {
+                self.octets[self.len] = *x;
+                self.len += 1;
+            }
+        }
+        Ok(())
+    }
+}
+
+// Where the system's number of an error begins in its text, or the end of the text.
+fn number_at(text: &[u8]) -> usize {
+    for at in 0..text.len() {
+        if octets::stands_at(text, at, b" (os error ") {
+            return at;
+        }
+    }
+    text.len()
+}
+
+// An error in words: the system's text where it has one, and not its number.
+fn complain_error(cause: Error) {
+    let mut text = Text {
+        octets: [0u8; 256],
+        len: 0,
+    };
+    let _ = write!(text, "{cause}");
+    let words = octets::part(&text.octets, 0, text.len);
+    complain(octets::part(words, 0, number_at(words)));
+}
+
+// What was done in vain, a colon, and the cause.
+pub fn fail(what: &[u8], cause: Error) {
+    complain(what);
+    complain(b": ");
+    complain_error(cause);
+    complain(b"\n");
+}
+
+// What could not be done, and the cause.
+fn blame(what: &[u8], not: &[u8], cause: Error) {
+    complain(what);
+    fail(not, cause);
 }
 
 // ---- how a program ended: the last line of what it writes
@@ -103,14 +198,14 @@ pub fn ended_badly(why: &[u8])
 pub fn say(text: &[u8])
     ensures { text.now ≡ text.now }
 {
-    io::write_all(STDOUT_FILENO, text);
+    io::write_all(STDOUT, text);
 }
 
 // A number in decimal.
 pub fn number(n: u64)
     ensures { result ≡ tt }
 {
-    io::print_decimal(STDOUT_FILENO, n);
+    io::print_decimal(STDOUT, n);
 }
 
 // The meaning of a Failure Request's code, or of an account's other than 0: RFC 2759, section 6.
@@ -202,7 +297,7 @@ pub fn lines(s: &[u8], margin: &[u8])
 // ---- text
 
 // An octet as it is shown, at the front of an array.
-#[derive(Drop)]
+#[derive(Clone, Copy)]
 struct Shown {
     text: [u8; 4],
     len: usize,

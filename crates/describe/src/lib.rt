@@ -1,4 +1,6 @@
 // Packets and refusals in words, on the screen.
+#![tactic(auto)]
+
 ghost use Rattle.std.specs.Prelude.{◌≡◌};
 
 use octets::Order;

@@ -1,6 +1,11 @@
 // Explains packets that are given as lines of hex octets.
+#![tactic(auto)]
+
 use console::File;
 use packet::End;
+use std::env::Env;
+use std::io::Input;
+use std::rt::Files;
 
 mod lines;
 
@@ -38,20 +43,20 @@ explain server [FILE]
 }
 
 // Whether the first argument is this word.
-fn is_word(word: &[u8]) -> bool {
+fn is_word<R: Env>(rt: &R, word: &[u8]) -> bool {
     let mut text = [0u8; 8];
-    let n = os::arg(1, &mut text);
+    let n = console::arg(rt, 1, &mut text).unwrap_or(0);
     octets::equal(octets::part(&text, 0, n), word)
 }
 
-fn is_help() -> bool {
-    if is_word(b"help") {
+fn is_help<R: Env>(rt: &R) -> bool {
+    if is_word(rt, b"help") {
         return true;
     }
-    if is_word(b"--help") {
+    if is_word(rt, b"--help") {
         return true;
     }
-    is_word(b"-h")
+    is_word(rt, b"-h")
 }
 
 // A text that fills its buffer may not be whole.
@@ -71,52 +76,52 @@ fn read(end: End, file: File, s: &[u8]) {
     }
 }
 
-fn input(end: End) {
+fn input<R: Input>(rt: &R, end: End) {
     let mut space = [0u8; 262144];
-    let file = console::read_input(b"explain: standard input", &mut space);
+    let file = console::read_input(rt, b"explain: standard input", &mut space);
     read(end, file, &space);
 }
 
-fn file(end: End) {
+fn file<R: Env + Files>(rt: &R, end: End) {
     let mut path = io::buffer();
-    let n = os::arg(2, &mut path);
+    let n = console::arg(rt, 2, &mut path).unwrap_or(0);
     if n == 0 {
         complain(b"FILE is empty or too long");
         return;
     }
     let mut space = [0u8; 262144];
-    let file = console::read(b"explain: FILE", &path[..n], &mut space);
+    let file = console::read(rt, b"explain: FILE", &path[..n], &mut space);
     read(end, file, &space);
 }
 
-fn with_end(end: End, count: usize) {
+fn with_end<R: Env + Files + Input>(rt: &R, end: End, count: usize) {
     if count < 3 {
-        input(end);
+        input(rt, end);
         return;
     }
     if 3 < count {
         complain(b"there are too many arguments");
         return;
     }
-    file(end);
+    file(rt, end);
 }
 
-fn main() {
-    let count = os::arg_count();
+fn main(rt: HostRuntime) {
+    let count = console::arg_count(&rt);
     if count < 2 {
-        input(End::Peer);
+        input(&rt, End::Peer);
         return;
     }
-    if is_help() {
+    if is_help(&rt) {
         help();
         return;
     }
-    if is_word(b"peer") {
-        with_end(End::Peer, count);
+    if is_word(&rt, b"peer") {
+        with_end(&rt, End::Peer, count);
         return;
     }
-    if is_word(b"server") {
-        with_end(End::Server, count);
+    if is_word(&rt, b"server") {
+        with_end(&rt, End::Server, count);
         return;
     }
     complain(b"peer or server is missing");

@@ -3,6 +3,8 @@ use super::{CHALLENGE, PEER_CHALLENGE, talk};
 use answer::Answer;
 use console::File;
 use roster::Line;
+use std::env::Env;
+use std::rt::Files;
 use talk::Login;
 
 // What is wrong with an argument, and a hint.
@@ -36,9 +38,9 @@ fn retries_of(text: &[u8]) -> u64 {
     octets::number_of(text)
 }
 
-fn with_retries(table: &[u8], name: &[u8], text: &[u8], login: Login, i: usize) {
+fn with_retries<R: Env>(rt: &R, table: &[u8], name: &[u8], text: &[u8], login: Login, i: usize) {
     let mut word = [0u8; 16];
-    let n = os::arg(i, &mut word);
+    let n = console::arg(rt, i, &mut word).unwrap_or(0);
     let retries = retries_of(octets::part(&word, 0, n));
     if 10 < retries {
         complain(b"RETRIES is not a number from 0 to 10");
@@ -60,13 +62,13 @@ fn with_retries(table: &[u8], name: &[u8], text: &[u8], login: Login, i: usize) 
     );
 }
 
-fn with_login(table: &[u8], name: &[u8], text: &[u8], login: Login, count: usize) {
+fn with_login<R: Env>(rt: &R, table: &[u8], name: &[u8], text: &[u8], login: Login, count: usize) {
     if count == 5 {
-        with_retries(table, name, text, login, 4);
+        with_retries(rt, table, name, text, login, 4);
         return;
     }
     if count == 7 {
-        with_retries(table, name, text, login, 6);
+        with_retries(rt, table, name, text, login, 6);
         return;
     }
     talk::play(table, name, text, login);
@@ -74,15 +76,15 @@ fn with_login(table: &[u8], name: &[u8], text: &[u8], login: Login, count: usize
 
 // ---- the challenges
 
-#[derive(Drop)]
+#[derive(Clone, Copy)]
 struct Sixteen {
     good: bool,
     octets: [u8; 16],
 }
 
-fn challenge_in(i: usize) -> Sixteen {
+fn challenge_in<R: Env>(rt: &R, i: usize) -> Sixteen {
     let mut text = [0u8; 64];
-    let n = os::arg(i, &mut text);
+    let n = console::arg(rt, i, &mut text).unwrap_or(0);
     let digits = octets::part(&text, 0, n);
     let octets = octets::from_hex(digits);
     if n != 32 {
@@ -97,7 +99,7 @@ fn challenge_in(i: usize) -> Sixteen {
     }
 }
 
-fn with_hash(table: &[u8], name: &[u8], text: &[u8], hash: [u8; 16], count: usize) {
+fn with_hash<R: Env>(rt: &R, table: &[u8], name: &[u8], text: &[u8], hash: [u8; 16], count: usize) {
     if count < 6 {
         let login = Login {
             hash,
@@ -105,15 +107,15 @@ fn with_hash(table: &[u8], name: &[u8], text: &[u8], hash: [u8; 16], count: usiz
             random: PEER_CHALLENGE,
             retries: 0,
         };
-        with_login(table, name, text, login, count);
+        with_login(rt, table, name, text, login, count);
         return;
     }
-    let one = challenge_in(4);
+    let one = challenge_in(rt, 4);
     if !one.good {
         complain(b"CHALLENGE is not 32 hex digits");
         return;
     }
-    let other = challenge_in(5);
+    let other = challenge_in(rt, 5);
     if !other.good {
         complain(b"PEER-CHALLENGE is not 32 hex digits");
         return;
@@ -126,36 +128,34 @@ fn with_hash(table: &[u8], name: &[u8], text: &[u8], hash: [u8; 16], count: usiz
         random,
         retries: 0,
     };
-    with_login(table, name, text, login, count);
+    with_login(rt, table, name, text, login, count);
 }
 
 // ---- the password, the name and the table
 
-fn with_name(table: &[u8], name: &[u8], text: &[u8], count: usize) {
+fn with_name<R: Env>(rt: &R, table: &[u8], name: &[u8], text: &[u8], count: usize) {
     let mut word = io::buffer();
-    let n = os::arg(3, &mut word);
-    if os::errno() != 0 {
+    let Some(n) = console::arg(rt, 3, &mut word) else {
         complain(b"PASSWORD is too long");
         return;
-    }
+    };
     let made = roster::secret_of(&word[..n]);
     let line = made.line;
     let hash = made.hash;
     match line {
-        Line::Account => with_hash(table, name, text, hash, count),
+        Line::Account => with_hash(rt, table, name, text, hash, count),
         Line::BadHash => complain(b"PASSWORD begins with hash=, and 32 hex digits do not follow"),
         Line::LongPassword => complain(b"PASSWORD has more than 256 UTF-16 units"),
         _ => complain(b"PASSWORD is not UTF-8"),
     }
 }
 
-fn with_table(table: &[u8], text: &[u8], count: usize) {
+fn with_table<R: Env>(rt: &R, table: &[u8], text: &[u8], count: usize) {
     let mut name = io::buffer();
-    let n = os::arg(2, &mut name);
-    if os::errno() != 0 {
+    let Some(n) = console::arg(rt, 2, &mut name) else {
         complain(b"NAME is too long");
         return;
-    }
+    };
     if n == 0 {
         complain(b"NAME is empty");
         return;
@@ -164,29 +164,29 @@ fn with_table(table: &[u8], text: &[u8], count: usize) {
         complain(b"NAME has more than 256 octets");
         return;
     }
-    with_name(table, &name[..n], text, count);
+    with_name(rt, table, &name[..n], text, count);
 }
 
-fn with_octets(table: &[u8], text: &[u8], count: usize) {
+fn with_octets<R: Env>(rt: &R, table: &[u8], text: &[u8], count: usize) {
     if !is_written(accounts::check(table)) {
         console::complain(b"login: TABLE is not a well-formed account table\n");
         console::ended_badly(b"nothing was played");
         return;
     }
-    with_table(table, text, count);
+    with_table(rt, table, text, count);
 }
 
 // One octet more than a table has at most, so that a longer file is seen to be longer.
-fn with_path(path: &[u8], text: &[u8], count: usize) {
+fn with_path<R: Env + Files>(rt: &R, path: &[u8], text: &[u8], count: usize) {
     let mut table = [0u8; 65537];
-    let file = console::read(b"login: TABLE", path, &mut table);
+    let file = console::read(rt, b"login: TABLE", path, &mut table);
     match file {
-        File::Read(n) => with_octets(octets::part(&table, 0, n), text, count),
+        File::Read(n) => with_octets(rt, octets::part(&table, 0, n), text, count),
         _ => console::ended_badly(b"nothing was played"),
     }
 }
 
-fn with_text(text: &[u8], count: usize) {
+fn with_text<R: Env + Files>(rt: &R, text: &[u8], count: usize) {
     if count == 3 {
         complain(b"PASSWORD is missing");
         return;
@@ -196,20 +196,19 @@ fn with_text(text: &[u8], count: usize) {
         return;
     }
     let mut path = io::buffer();
-    let n = os::arg(1, &mut path);
-    if os::errno() != 0 {
+    let Some(n) = console::arg(rt, 1, &mut path) else {
         complain(b"TABLE is too long");
         return;
-    }
-    with_path(&path[..n], text, count);
+    };
+    with_path(rt, &path[..n], text, count);
 }
 
 // ---- the text: the last argument, where it begins with text= and is not the password
 
 // The arguments without the last are one fewer.
-fn last_word(word: &[u8], count: usize, fewer: usize) {
+fn last_word<R: Env + Files>(rt: &R, word: &[u8], count: usize, fewer: usize) {
     if !octets::stands_at(word, 0, b"text=") {
-        with_text(&[], count);
+        with_text(rt, &[], count);
         return;
     }
     let text = octets::rest(word, 5);
@@ -217,20 +216,19 @@ fn last_word(word: &[u8], count: usize, fewer: usize) {
         complain(b"TEXT has more than 960 octets");
         return;
     }
-    with_text(text, fewer);
+    with_text(rt, text, fewer);
 }
 
 // Three arguments or more.
-pub(crate) fn play(count: usize) {
+pub(crate) fn play<R: Env + Files>(rt: &R, count: usize) {
     if count < 5 {
-        with_text(&[], count);
+        with_text(rt, &[], count);
         return;
     }
     let mut word = io::buffer();
-    let n = os::arg(count - 1, &mut word);
-    if os::errno() != 0 {
+    let Some(n) = console::arg(rt, count - 1, &mut word) else {
         complain(b"the last argument is too long");
         return;
-    }
-    last_word(&word[..n], count, count - 1);
+    };
+    last_word(rt, &word[..n], count, count - 1);
 }

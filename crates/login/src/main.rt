@@ -1,4 +1,7 @@
 // Plays a login between both ends in memory, and shows each packet.
+#![tactic(auto)]
+
+use std::env::Env;
 use talk::Login;
 
 mod arguments;
@@ -82,9 +85,9 @@ fn is_help(word: &[u8]) -> bool {
 }
 
 // One argument: a word for help.
-fn one_word() {
+fn one_word<R: Env>(rt: &R) {
     let mut word = [0u8; 8];
-    let n = os::arg(1, &mut word);
+    let n = console::arg(rt, 1, &mut word).unwrap_or(0);
     if is_help(octets::part(&word, 0, n)) {
         help();
         return;
@@ -92,15 +95,15 @@ fn one_word() {
     arguments::complain(b"NAME and PASSWORD are missing");
 }
 
-fn main() {
-    let count = os::arg_count();
+fn main(rt: HostRuntime) {
+    let count = console::arg_count(&rt);
     if count < 2 {
         example();
         return;
     }
     if count == 2 {
-        one_word();
+        one_word(&rt);
         return;
     }
-    arguments::play(count);
+    arguments::play(&rt, count);
 }

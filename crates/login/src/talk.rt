@@ -9,7 +9,7 @@ use peer::{Peer, PeerStep};
 use server::{Server, ServerStep};
 
 // The password's hash, the first challenge of either end, and how often the server lets the peer try again.
-#[derive(Drop)]
+#[derive(Clone, Copy)]
 pub struct Login {
     pub hash: [u8; 16],
     pub challenge: [u8; 16],
@@ -18,7 +18,7 @@ pub struct Login {
 }
 
 // Both ends, and how many octets the packet has that is on its way to the peer: 0 once the talk is over.
-#[derive(Drop)]
+#[derive(Clone, Copy)]
 struct Ends {
     peer: Peer,
     server: Server,

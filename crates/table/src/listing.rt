@@ -93,9 +93,9 @@ fn check(table: &[u8], hashes: bool) {
 }
 
 // One octet more than a table has at most, so that a longer file is seen to be longer.
-pub(crate) fn list(path: &[u8], hashes: bool) {
+pub(crate) fn list(rt: &HostRuntime, path: &[u8], hashes: bool) {
     let mut table = [0u8; 65537];
-    let file = console::read(b"table: TABLE", path, &mut table);
+    let file = console::read(rt, b"table: TABLE", path, &mut table);
     match file {
         File::Read(n) => check(octets::part(&table, 0, n), hashes),
         _ => console::ended_badly(b"nothing was listed"),

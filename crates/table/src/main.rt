@@ -1,4 +1,8 @@
 // Makes account tables of lines of text, and lists them.
+#![tactic(auto)]
+
+ghost use Rattle.std.specs.Prelude.{◌≤◌};
+
 mod listing;
 mod making;
 mod saving;
@@ -40,69 +44,78 @@ table list TABLE [hashes]
 }
 
 // Whether argument i is this word.
-fn is_word(i: usize, word: &[u8]) -> bool {
+fn is_word(rt: &HostRuntime, i: usize, word: &[u8]) -> bool {
     let mut text = [0u8; 16];
-    let n = os::arg(i, &mut text);
-    octets::equal(octets::part(&text, 0, n), word)
+    match console::arg(rt, i, &mut text) {
+        Some(n) => octets::equal(octets::part(&text, 0, n), word),
+        None => false,
+    }
 }
 
-fn is_help() -> bool {
-    if is_word(1, b"help") {
+fn is_help(rt: &HostRuntime) -> bool {
+    if is_word(rt, 1, b"help") {
         return true;
     }
-    if is_word(1, b"--help") {
+    if is_word(rt, 1, b"--help") {
         return true;
     }
-    is_word(1, b"-h")
+    is_word(rt, 1, b"-h")
 }
 
-fn make(count: usize) {
-    let mut lines = io::buffer();
-    let n = os::arg(2, &mut lines);
+// A path at the front of an array, and how many octets it has: 0 where it is missing or too long.
+fn path_at(rt: &HostRuntime, i: usize, path: &mut [u8; 4096]) -> usize
+    ensures { result ≤ 4096 }
+{
+    console::arg(rt, i, path).unwrap_or(0)
+}
+
+fn make(rt: &HostRuntime, count: usize) {
+    let mut lines = [0u8; 4096];
+    let n = path_at(rt, 2, &mut lines);
     if n == 0 {
         complain(b"LINES is empty or too long");
         return;
     }
-    let mut table = io::buffer();
-    let m = os::arg(3, &mut table);
+    let mut table = [0u8; 4096];
+    let m = path_at(rt, 3, &mut table);
     if m == 0 {
         complain(b"TABLE is empty or too long");
         return;
     }
-    let hashes = is_word(4, b"hashes");
+    let hashes = is_word(rt, 4, b"hashes");
     if count == 5 {
         if !hashes {
             complain(b"the last word is not hashes");
             return;
         }
     }
-    making::make(&lines[..n], &table[..m], hashes);
+    making::make(rt, &lines[..n], &table[..m], hashes);
 }
 
-fn list(count: usize) {
-    let mut table = io::buffer();
-    let n = os::arg(2, &mut table);
+fn list(rt: &HostRuntime, count: usize) {
+    let mut table = [0u8; 4096];
+    let n = path_at(rt, 2, &mut table);
     if n == 0 {
         complain(b"TABLE is empty or too long");
         return;
     }
-    let hashes = is_word(3, b"hashes");
+    let hashes = is_word(rt, 3, b"hashes");
     if count == 4 {
         if !hashes {
             complain(b"the last word is not hashes");
             return;
         }
     }
-    listing::list(&table[..n], hashes);
+    listing::list(rt, &table[..n], hashes);
 }
 
-fn main() {
-    let count = os::arg_count();
-    if is_help() {
+fn main(rt: HostRuntime) {
+    let count = console::arg_count(&rt);
+    if is_help(&rt) {
         help();
         return;
     }
-    if is_word(1, b"make") {
+    if is_word(&rt, 1, b"make") {
         if count < 4 {
             complain(b"LINES or TABLE is missing");
             return;
@@ -111,10 +124,10 @@ fn main() {
             complain(b"there are too many arguments");
             return;
         }
-        make(count);
+        make(&rt, count);
         return;
     }
-    if is_word(1, b"list") {
+    if is_word(&rt, 1, b"list") {
         if count < 3 {
             complain(b"TABLE is missing");
             return;
@@ -123,7 +136,7 @@ fn main() {
             complain(b"there are too many arguments");
             return;
         }
-        list(count);
+        list(&rt, count);
         return;
     }
     complain(b"make or list is missing");

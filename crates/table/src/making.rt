@@ -32,8 +32,8 @@ fn refuse(line: Line, number: usize) {
     console::say(b" is wrong; nothing was written\n");
 }
 
-fn finish(lines: &[u8], path: &[u8], table: &[u8], hashes: bool) {
-    let saved = saving::write(lines, path, table);
+fn finish(rt: &HostRuntime, lines: &[u8], path: &[u8], table: &[u8], hashes: bool) {
+    let saved = saving::write(rt, lines, path, table);
     match saved {
         Saved::Nothing => console::ended_badly(b"nothing was written"),
         Saved::Unsettled => console::ended_badly(b"TABLE was replaced, but a crash may undo that"),
@@ -41,8 +41,8 @@ fn finish(lines: &[u8], path: &[u8], table: &[u8], hashes: bool) {
     }
 }
 
-fn convert(text: &[u8], lines: &[u8], path: &[u8], hashes: bool) {
-    let mut table = io::large_buffer();
+fn convert(rt: &HostRuntime, text: &[u8], lines: &[u8], path: &[u8], hashes: bool) {
+    let mut table = [0u8; 65536];
     let made = roster::make(&mut table, text);
     let line = made.ended;
     let len = made.len;
@@ -52,7 +52,7 @@ fn convert(text: &[u8], lines: &[u8], path: &[u8], hashes: bool) {
     }
     let table = octets::part(&table, 0, len);
     warning::lines(table, text);
-    finish(lines, path, table, hashes);
+    finish(rt, lines, path, table, hashes);
 }
 
 // A text without the byte order mark at its front.
@@ -64,20 +64,20 @@ fn unmarked(text: &[u8]) -> &[u8] {
     octets::rest(text, 3)
 }
 
-fn read(text: &[u8], lines: &[u8], path: &[u8], hashes: bool) {
+fn read(rt: &HostRuntime, text: &[u8], lines: &[u8], path: &[u8], hashes: bool) {
     if text.len() == 262144 {
         console::complain(b"table: LINES has 262,144 octets or more\n");
         console::ended_badly(b"nothing was written");
         return;
     }
-    convert(unmarked(text), lines, path, hashes);
+    convert(rt, unmarked(text), lines, path, hashes);
 }
 
-pub(crate) fn make(lines: &[u8], path: &[u8], hashes: bool) {
+pub(crate) fn make(rt: &HostRuntime, lines: &[u8], path: &[u8], hashes: bool) {
     let mut text = [0u8; 262144];
-    let file = console::read(b"table: LINES", lines, &mut text);
+    let file = console::read(rt, b"table: LINES", lines, &mut text);
     match file {
-        File::Read(n) => read(octets::part(&text, 0, n), lines, path, hashes),
+        File::Read(n) => read(rt, octets::part(&text, 0, n), lines, path, hashes),
         _ => console::ended_badly(b"nothing was written"),
     }
 }

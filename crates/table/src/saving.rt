@@ -1,9 +1,11 @@
 // A table written to a file, whole or not at all: to a new file beside it, which then takes its name.
 ghost use Rattle.std.specs.Prelude.{◌≤◌};
-ghost use Rattle.libc.specs.Io.{Ended};
 
-use libc::PATH_MAX;
-use libc::types::{stat, timespec};
+use std::fs;
+use std::fs::{File, Metadata, OpenOptions, Permissions};
+use std::io::{ErrorKind, Result, Write};
+use std::os::unix::fs::{MetadataExt, OpenOptionsExt, PermissionsExt, fchown};
+use std::random::RandomSource;
 
 // What came of it: nothing was written; or the table is in its place, and not known to outlast a crash; or it is.
 #[derive(Drop)]
@@ -15,78 +17,48 @@ pub(crate) enum Saved {
 
 // ---- what stands at a path
 
-// No file has the mode 0: it has the bits of its kind.
-fn unknown() -> stat {
-    let never = timespec {
-        tv_sec: 0,
-        tv_nsec: 0,
-    };
-    stat {
-        st_dev: 0,
-        st_ino: 0,
-        st_nlink: 0,
-        st_mode: 0,
-        st_uid: 0,
-        st_gid: 0,
-        __pad: 0,
-        st_rdev: 0,
-        st_size: 0,
-        st_blksize: 0,
-        st_blocks: 0,
-        st_atim: never,
-        st_mtim: never,
-        st_ctim: never,
-        __unused: [0; 3],
+fn status(rt: &HostRuntime, path: &[u8]) -> Result<Metadata> {
+    fs::metadata(rt, console::path_of(path)?)
+}
+
+// What is known of what stands at a path itself, and not of what a symbolic link there leads to.
+fn look(rt: &HostRuntime, path: &[u8]) -> Result<Metadata> {
+    fs::symlink_metadata(rt, console::path_of(path)?)
+}
+
+fn is_link(rt: &HostRuntime, path: &[u8]) -> bool {
+    match look(rt, path) {
+        Ok(st) => st.is_symlink(),
+        Err(_) => false,
     }
 }
 
-// What is known of the file at a path; st comes back where nothing is, and errno says why.
-fn look(path: &[u8; PATH_MAX], mut st: stat) -> stat
-    requires { Ended path.now }
-{
-    libc::stat(path, &mut st);
-    st
+fn is_regular(st: &Metadata) -> bool {
+    st.is_file()
 }
 
-// A path of at most 4,095 octets with zeros after it.
-fn ended(path: &[u8]) -> [u8; PATH_MAX]
-    ensures { Ended result }
-{
-    let mut name = io::buffer();
-    octets::put_at(&mut name, 0, path);
-    name[4095] = 0;
-    name
-}
-
-fn status(path: &[u8]) -> stat {
-    let name = ended(path);
-    look(&name, unknown())
-}
-
-fn is_link(path: &[u8]) -> bool {
-    let name = ended(path);
-    let mut text = [0u8; 1];
-    libc::readlink(&name, &mut text) >= 0
-}
-
-fn is_regular(st: stat) -> bool {
-    st.st_mode & libc::S_IFMT == libc::S_IFREG
-}
-
-fn is_same(a: stat, b: stat) -> bool {
-    if a.st_dev != b.st_dev {
+fn is_same(a: &Metadata, b: &Metadata) -> bool {
+    if a.dev() != b.dev() {
         return false;
     }
-    a.st_ino == b.st_ino
+    a.ino() == b.ino()
+}
+
+// Whether a file is that of the lines.
+fn is_lines(rt: &HostRuntime, old: &Metadata, lines: &[u8]) -> bool {
+    match status(rt, lines) {
+        Ok(st) => is_same(old, &st),
+        Err(_) => false,
+    }
 }
 
 // Whether a table may take the place of a file. If not, says why.
-fn may_replace(old: stat, lines: &[u8]) -> bool {
+fn may_replace(rt: &HostRuntime, old: &Metadata, lines: &[u8]) -> bool {
     if !is_regular(old) {
         console::complain(b"table: TABLE is there and is no regular file\n");
         return false;
     }
-    if is_same(old, status(lines)) {
+    if is_lines(rt, old, lines) {
         console::complain(b"table: TABLE is the file LINES\n");
         return false;
     }
@@ -97,48 +69,98 @@ fn may_replace(old: stat, lines: &[u8]) -> bool {
 
 // The owner, the group and the permissions of the old file. Without one the new file stays as it was made, and only its
 // owner may read it.
-fn keep(fd: i32, old: stat) -> bool {
-    if old.st_mode == 0 {
+fn keep(file: &File, old: Option<&Metadata>) -> bool {
+    let Some(old) = old else {
         return true;
-    }
-    if libc::fchown(fd, old.st_uid, old.st_gid) != 0 {
-        os::fail(b"table: the owner and the group of TABLE cannot be kept");
+    };
+    if let Err(cause) = fchown(file, Some(old.uid()), Some(old.gid())) {
+        console::fail(
+            b"table: the owner and the group of TABLE cannot be kept",
+            cause,
+        );
         return false;
     }
-    if libc::fchmod(fd, old.st_mode & 0o777) != 0 {
-        os::fail(b"table: the mode of TABLE cannot be kept");
+    if let Err(cause) = file.set_permissions(Permissions::from_mode(old.mode() & 0o777)) {
+        console::fail(b"table: the mode of TABLE cannot be kept", cause);
         return false;
     }
     true
 }
 
 // The octets reach the disk before the file gets its name.
-fn fill(fd: i32, table: &[u8], old: stat) -> bool {
-    if !io::write_all(fd, table) {
-        os::fail(b"table: TABLE cannot be written");
+fn fill(file: &mut File, table: &[u8], old: Option<&Metadata>) -> bool {
+    if let Err(cause) = file.write_all(table) {
+        console::fail(b"table: TABLE cannot be written", cause);
         return false;
     }
-    if !keep(fd, old) {
+    if !keep(file, old) {
         return false;
     }
-    if libc::fsync(fd) != 0 {
-        os::fail(b"table: TABLE cannot be written");
+    if let Err(cause) = file.sync_all() {
+        console::fail(b"table: TABLE cannot be written", cause);
         return false;
     }
     true
 }
 
-// A new file with a name of this pattern, filled. Where that fails nothing is left of it.
-fn make(name: &mut [u8], table: &[u8], old: stat) -> bool {
-    let fd = os::create_temp(name);
-    if fd < 0 {
-        os::fail(b"table: TABLE cannot be written");
-        return false;
+// The letters and digits that a new file's name may end in.
+const LETTERS: [u8; 62] = *b"0123456789ABCDEFGHIJKLMNOPQRSTUVWXYZabcdefghijklmnopqrstuvwxyz";
+
+// How many names are tried.
+const TRIES: usize = 238328;
+
+// Six letters and digits, at random, in place of the last six octets of a name.
+fn draw(rt: &HostRuntime, name: &mut [u8]) -> Result<()> {
+    let mut random = [0u8; 6];
+    rt.fill_bytes(&mut random)?;
+    let n = name.len().saturating_sub(6);
+    for i in 0..6 {
+        let x = LETTERS[random[i] as usize % 62];
+        octets::put_at(name, n + i, &[x]);
     }
-    let filled = fill(fd, table, old);
-    libc::close(fd);
+    Ok(())
+}
+
+// A file that was not there before, which only its owner may read and write.
+fn create_new(rt: &HostRuntime, name: &[u8]) -> Result<File> {
+    OpenOptions::new()
+        .write(true)
+        .create_new(true)
+        .mode(0o600)
+        .open(rt, console::path_of(name)?)
+}
+
+// A new file with a name of this pattern, whose last six octets are drawn until there is no such file.
+fn create_temp(rt: &HostRuntime, name: &mut [u8]) -> Result<File> {
+    for _ in 1..TRIES {
+        draw(rt, name)?;
+        match create_new(rt, name) {
+            Err(cause) if cause.kind() == ErrorKind::AlreadyExists => {}
+            answer => return answer,
+        }
+    }
+    draw(rt, name)?;
+    create_new(rt, name)
+}
+
+// Takes a new file away. Where that fails it stays, and nothing more can be done.
+fn unlink(rt: &HostRuntime, name: &[u8]) {
+    if let Ok(path) = console::path_of(name) {
+        let _ = fs::remove_file(rt, path);
+    }
+}
+
+// A new file with a name of this pattern, filled. Where that fails nothing is left of it.
+fn make(rt: &HostRuntime, name: &mut [u8], table: &[u8], old: Option<&Metadata>) -> bool {
+    let filled = match create_temp(rt, name) {
+        Ok(mut file) => fill(&mut file, table, old),
+        Err(cause) => {
+            console::fail(b"table: TABLE cannot be written", cause);
+            return false;
+        }
+    };
     if !filled {
-        os::unlink(name);
+        unlink(rt, name);
     }
     filled
 }
@@ -164,40 +186,56 @@ fn folder_of(path: &[u8]) -> usize {
     n
 }
 
-fn open_folder(path: &[u8]) -> i32 {
+fn open_folder(rt: &HostRuntime, path: &[u8]) -> Result<File> {
     let n = folder_of(path);
     if n == 0 {
-        return os::open_read(b".");
+        return fs::open(rt, ".");
     }
-    os::open_read(octets::part(path, 0, n))
+    fs::open(rt, console::path_of(octets::part(path, 0, n))?)
 }
 
 // The folder, with the file's new name in it, reaches the disk.
-fn settle(path: &[u8]) -> Saved {
-    let fd = open_folder(path);
-    if fd < 0 {
-        os::fail(b"table: TABLE was replaced, but its folder cannot be opened");
+fn settle(rt: &HostRuntime, path: &[u8]) -> Saved {
+    let folder = match open_folder(rt, path) {
+        Ok(folder) => folder,
+        Err(cause) => {
+            console::fail(
+                b"table: TABLE was replaced, but its folder cannot be opened",
+                cause,
+            );
+            return Saved::Unsettled;
+        }
+    };
+    if let Err(cause) = folder.sync_all() {
+        console::fail(
+            b"table: TABLE was replaced, but its folder cannot be written",
+            cause,
+        );
         return Saved::Unsettled;
     }
-    if libc::fsync(fd) != 0 {
-        os::fail(b"table: TABLE was replaced, but its folder cannot be written");
-        libc::close(fd);
-        return Saved::Unsettled;
-    }
-    libc::close(fd);
     Saved::Settled
 }
 
-fn save(name: &mut [u8], path: &[u8], table: &[u8], old: stat) -> Saved {
-    if !make(name, table, old) {
+fn rename(rt: &HostRuntime, name: &[u8], path: &[u8]) -> Result<()> {
+    fs::rename(rt, console::path_of(name)?, console::path_of(path)?)
+}
+
+fn save(
+    rt: &HostRuntime,
+    name: &mut [u8],
+    path: &[u8],
+    table: &[u8],
+    old: Option<&Metadata>,
+) -> Saved {
+    if !make(rt, name, table, old) {
         return Saved::Nothing;
     }
-    if os::rename(name, path) != 0 {
-        os::fail(b"table: TABLE cannot be written");
-        os::unlink(name);
+    if let Err(cause) = rename(rt, name, path) {
+        console::fail(b"table: TABLE cannot be written", cause);
+        unlink(rt, name);
         return Saved::Nothing;
     }
-    settle(path)
+    settle(rt, path)
 }
 
 // A pattern for the new file's name, beside the path, of r octets; 0 where the path is too long for one.
@@ -213,32 +251,36 @@ fn pattern(name: &mut [u8], path: &[u8]) -> usize
     n + 7
 }
 
-fn save_beside(path: &[u8], table: &[u8], old: stat) -> Saved {
-    let mut name = io::buffer();
+fn save_beside(rt: &HostRuntime, path: &[u8], table: &[u8], old: Option<&Metadata>) -> Saved {
+    let mut name = [0u8; 4096];
     let n = pattern(&mut name, path);
     if n == 0 {
         console::complain(b"table: the path of TABLE is too long\n");
         return Saved::Nothing;
     }
-    save(&mut name[0..n], path, table, old)
+    save(rt, &mut name[0..n], path, table, old)
+}
+
+// Where a regular file stands at a path, and a table may take its place.
+fn replace(rt: &HostRuntime, lines: &[u8], path: &[u8], table: &[u8], old: Metadata) -> Saved {
+    if !may_replace(rt, &old, lines) {
+        return Saved::Nothing;
+    }
+    save_beside(rt, path, table, Some(&old))
 }
 
 // Writes a table to a path, where nothing stands or another regular file than that of the lines.
-pub(crate) fn write(lines: &[u8], path: &[u8], table: &[u8]) -> Saved {
-    if is_link(path) {
+pub(crate) fn write(rt: &HostRuntime, lines: &[u8], path: &[u8], table: &[u8]) -> Saved {
+    if is_link(rt, path) {
         console::complain(b"table: TABLE is a symbolic link; name the file that it leads to\n");
         return Saved::Nothing;
     }
-    let old = status(path);
-    if old.st_mode == 0 {
-        if os::errno() != libc::ENOENT {
-            os::fail(b"table: TABLE cannot be written");
-            return Saved::Nothing;
+    match status(rt, path) {
+        Ok(old) => replace(rt, lines, path, table, old),
+        Err(cause) if cause.kind() == ErrorKind::NotFound => save_beside(rt, path, table, None),
+        Err(cause) => {
+            console::fail(b"table: TABLE cannot be written", cause);
+            Saved::Nothing
         }
-        return save_beside(path, table, old);
     }
-    if !may_replace(old, lines) {
-        return Saved::Nothing;
-    }
-    save_beside(path, table, old)
 }

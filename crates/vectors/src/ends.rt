@@ -6,6 +6,8 @@ use answer::{Answer, Identifier};
 use packet::Place;
 use peer::{Peer, PeerStep};
 use server::{Server, ServerStep};
+use std::io;
+use std::io::Print;
 
 #[derive(Drop)]
 pub struct Ends {
@@ -25,22 +27,34 @@ fn octet(line: &[u8], k: usize) -> u8 {
     out[0]
 }
 
-fn after_peer(name: &[u8], done: PeerStep, reply: &[u8], ends: Ends) -> Ends {
+fn after_peer(
+    rt: &impl Print,
+    name: &[u8],
+    done: PeerStep,
+    reply: &[u8],
+    ends: Ends,
+) -> io::Result<Ends> {
     let answer = done.answer;
     let n = done.n;
-    script::tell(name, answer, octets::part(reply, 0, n));
+    script::tell(rt, name, answer, octets::part(reply, 0, n))?;
     let peer = done.peer;
     let server = ends.server;
-    Ends { peer, server }
+    Ok(Ends { peer, server })
 }
 
-fn after_server(name: &[u8], done: ServerStep, reply: &[u8], ends: Ends) -> Ends {
+fn after_server(
+    rt: &impl Print,
+    name: &[u8],
+    done: ServerStep,
+    reply: &[u8],
+    ends: Ends,
+) -> io::Result<Ends> {
     let answer = done.answer;
     let n = done.n;
-    script::tell(name, answer, octets::part(reply, 0, n));
+    script::tell(rt, name, answer, octets::part(reply, 0, n))?;
     let peer = ends.peer;
     let server = done.server;
-    Ends { peer, server }
+    Ok(Ends { peer, server })
 }
 
 pub(crate) fn fresh() -> Ends {
@@ -50,51 +64,56 @@ pub(crate) fn fresh() -> Ends {
     Ends { peer, server }
 }
 
-pub(crate) fn make_peer(line: &[u8], ends: Ends) -> Ends {
+pub(crate) fn make_peer(rt: &impl Print, line: &[u8], ends: Ends) -> io::Result<Ends> {
     let mut name = [0u8; 300];
     let n = script::field(line, 1, &mut name);
     let done = Peer::new(&name[0..n], sixteen(line, 2));
-    after_peer(b"peer", done, b"", ends)
+    after_peer(rt, b"peer", done, b"", ends)
 }
 
 // The text that a step tells, if it has any octets.
-fn tell_text(answer: Answer, text: Place, packet: &[u8]) {
+fn tell_text(rt: &impl Print, answer: Answer, text: Place, packet: &[u8]) -> io::Result<()> {
     if text.len == 0 {
-        return;
+        return Ok(());
     }
-    script::tell(b"text", answer, octets::part(packet, text.start, text.len));
+    script::tell(
+        rt,
+        b"text",
+        answer,
+        octets::part(packet, text.start, text.len),
+    )
 }
 
-fn take(packet: &[u8], random: [u8; 16], ends: Ends) -> Ends {
+fn take(rt: &impl Print, packet: &[u8], random: [u8; 16], ends: Ends) -> io::Result<Ends> {
     let mut reply = [0u8; 400];
     let peer = ends.peer;
     let done = peer.step(packet, random, &mut reply);
     let answer = done.answer;
     let text = done.text;
-    let after = after_peer(b"step", done, &reply, ends);
-    tell_text(answer, text, packet);
-    after
+    let after = after_peer(rt, b"step", done, &reply, ends)?;
+    tell_text(rt, answer, text, packet)?;
+    Ok(after)
 }
 
-pub(crate) fn step(line: &[u8], ends: Ends) -> Ends {
+pub(crate) fn step(rt: &impl Print, line: &[u8], ends: Ends) -> io::Result<Ends> {
     let mut packet = [0u8; 1100];
     let n = script::field(line, 1, &mut packet);
-    take(&packet[0..n], sixteen(line, 2), ends)
+    take(rt, &packet[0..n], sixteen(line, 2), ends)
 }
 
-pub(crate) fn supply(line: &[u8], ends: Ends) -> Ends {
+pub(crate) fn supply(rt: &impl Print, line: &[u8], ends: Ends) -> io::Result<Ends> {
     let mut name = [0u8; 300];
     let n = script::field(line, 1, &mut name);
     let mut reply = [0u8; 400];
     let peer = ends.peer;
     let done = peer.supply(&name[0..n], sixteen(line, 2), sixteen(line, 3), &mut reply);
-    after_peer(b"supply", done, &reply, ends)
+    after_peer(rt, b"supply", done, &reply, ends)
 }
 
-pub(crate) fn give_up(ends: Ends) -> Ends {
+pub(crate) fn give_up(rt: &impl Print, ends: Ends) -> io::Result<Ends> {
     let peer = ends.peer;
     let done = peer.give_up();
-    after_peer(b"give_up", done, b"", ends)
+    after_peer(rt, b"give_up", done, b"", ends)
 }
 
 pub(crate) fn make_server(ends: Ends) -> Ends {
@@ -103,7 +122,7 @@ pub(crate) fn make_server(ends: Ends) -> Ends {
     Ends { peer, server }
 }
 
-pub(crate) fn start(line: &[u8], ends: Ends) -> Ends {
+pub(crate) fn start(rt: &impl Print, line: &[u8], ends: Ends) -> io::Result<Ends> {
     let mut name = [0u8; 300];
     let n = script::field(line, 3, &mut name);
     let mut reply = [0u8; 400];
@@ -111,10 +130,10 @@ pub(crate) fn start(line: &[u8], ends: Ends) -> Ends {
     let id = Identifier(octet(line, 1));
     let retries = octet(line, 4) as u64;
     let done = server.start(id, sixteen(line, 2), &name[0..n], retries, &mut reply);
-    after_server(b"start", done, &reply, ends)
+    after_server(rt, b"start", done, &reply, ends)
 }
 
-pub(crate) fn packet(line: &[u8], ends: Ends) -> Ends {
+pub(crate) fn packet(rt: &impl Print, line: &[u8], ends: Ends) -> io::Result<Ends> {
     let mut packet = [0u8; 1100];
     let n = script::field(line, 1, &mut packet);
     let mut table = [0u8; 4096];
@@ -122,12 +141,12 @@ pub(crate) fn packet(line: &[u8], ends: Ends) -> Ends {
     let mut reply = [0u8; 400];
     let server = ends.server;
     let done = server.packet(&packet[0..n], &table[0..m], sixteen(line, 3), &mut reply);
-    after_server(b"packet", done, &reply, ends)
+    after_server(rt, b"packet", done, &reply, ends)
 }
 
-pub(crate) fn resend(ends: Ends) -> Ends {
+pub(crate) fn resend(rt: &impl Print, ends: Ends) -> io::Result<Ends> {
     let mut reply = [0u8; 400];
     let server = ends.server;
     let done = server.resend(&mut reply);
-    after_server(b"resend", done, &reply, ends)
+    after_server(rt, b"resend", done, &reply, ends)
 }

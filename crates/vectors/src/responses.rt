@@ -3,6 +3,8 @@
 ghost use Rattle.std.specs.Prelude.{◌≤◌, length};
 
 use super::script;
+use std::io;
+use std::io::Print;
 
 fn sixteen(line: &[u8], k: usize) -> [u8; 16] {
     let mut out = [0u8; 16];
@@ -25,7 +27,7 @@ fn units_of(s: &[u8], units: &mut [u16]) -> usize
     n
 }
 
-pub(crate) fn password_hash(line: &[u8]) {
+pub(crate) fn password_hash(rt: &impl Print, line: &[u8]) -> io::Result<()> {
     let mut space = [0u8; 1024];
     let n = script::field(line, 1, &mut space);
     let mut units = [0u16; 512];
@@ -33,29 +35,29 @@ pub(crate) fn password_hash(line: &[u8]) {
     let h = mschap::password_hash(&units[0..m]);
     let answer = h.answer;
     let octets = h.octets;
-    script::tell(b"password_hash", answer, &octets);
+    script::tell(rt, b"password_hash", answer, &octets)
 }
 
-pub(crate) fn user(line: &[u8]) {
+pub(crate) fn user(rt: &impl Print, line: &[u8]) -> io::Result<()> {
     let mut name = [0u8; 300];
     let n = script::field(line, 1, &mut name);
     let u = mschap::user_of(&name[0..n]);
     let answer = u.answer;
     let start = u.start;
     let len = u.len;
-    script::tell(b"user", answer, octets::part(&name, start, len));
+    script::tell(rt, b"user", answer, octets::part(&name, start, len))
 }
 
-pub(crate) fn challenge_hash(line: &[u8]) {
+pub(crate) fn challenge_hash(rt: &impl Print, line: &[u8]) -> io::Result<()> {
     let mut user = [0u8; 300];
     let n = script::field(line, 3, &mut user);
     let h = mschap::challenge_hash(sixteen(line, 1), sixteen(line, 2), &user[0..n]);
     let answer = h.answer;
     let octets = h.octets;
-    script::tell(b"challenge_hash", answer, &octets);
+    script::tell(rt, b"challenge_hash", answer, &octets)
 }
 
-pub(crate) fn nt_response(line: &[u8]) {
+pub(crate) fn nt_response(rt: &impl Print, line: &[u8]) -> io::Result<()> {
     let mut user = [0u8; 300];
     let n = script::field(line, 3, &mut user);
     let r = mschap::nt_response(
@@ -66,10 +68,10 @@ pub(crate) fn nt_response(line: &[u8]) {
     );
     let answer = r.answer;
     let octets = r.octets;
-    script::tell(b"nt_response", answer, &octets);
+    script::tell(rt, b"nt_response", answer, &octets)
 }
 
-pub(crate) fn authenticator(line: &[u8]) {
+pub(crate) fn authenticator(rt: &impl Print, line: &[u8]) -> io::Result<()> {
     let mut response = [0u8; 24];
     script::field(line, 2, &mut response);
     let mut user = [0u8; 300];
@@ -83,5 +85,5 @@ pub(crate) fn authenticator(line: &[u8]) {
     );
     let answer = a.answer;
     let octets = a.octets;
-    script::tell(b"authenticator", answer, &octets);
+    script::tell(rt, b"authenticator", answer, &octets)
 }

@@ -3,7 +3,8 @@
 ghost use Rattle.std.specs.Prelude.{◌≤◌, length};
 
 use answer::Answer;
-use libc::STDOUT_FILENO;
+use std::io;
+use std::io::Print;
 
 // The place of x in s from `at`, or the end of s.
 pub(crate) fn find(s: &[u8], at: usize, x: u8) -> usize
@@ -130,18 +131,17 @@ pub(crate) fn named(line: &[u8], name: &[u8]) -> bool {
 }
 
 // Writes a line: the case's name, the answer's number, and octets in hex, or a minus sign for none.
-pub(crate) fn tell(name: &[u8], answer: Answer, value: &[u8]) {
+pub(crate) fn tell(rt: &impl Print, name: &[u8], answer: Answer, value: &[u8]) -> io::Result<()> {
     let mut text = [0u8; 2048];
     let n = least(value.len(), 1024);
     octets::to_hex(&mut text, value);
-    io::write_all(STDOUT_FILENO, name);
-    io::write_all(STDOUT_FILENO, b" ");
-    io::print_decimal(STDOUT_FILENO, answer::number(answer) as u64);
+    rt.write_all(name)?;
+    rt.write_all(b" ")?;
+    rt.print(answer::number(answer))?;
     if n == 0 {
-        io::write_all(STDOUT_FILENO, b" -\n");
-        return;
+        return rt.write_all(b" -\n");
     }
-    io::write_all(STDOUT_FILENO, b" ");
-    io::write_all(STDOUT_FILENO, &text[0..n * 2]);
-    io::write_all(STDOUT_FILENO, b"\n");
+    rt.write_all(b" ")?;
+    rt.write_all(&text[0..n * 2])?;
+    rt.write_all(b"\n")
 }

@@ -1,0 +1,9 @@
+-- Each account takes at least an octet.
+use Rattle.std.proofs.Common.{◌≤◌, ◌-◌, length}
+use Rattle.table.proofs.listing.rows.Given as goal
+
+abbrev pub invariant-loop-at : goal.invariant-loop-at
+invariant-loop-at l = l.n ≤ l.at
+
+abbrev pub decreases-loop-at : goal.decreases-loop-at
+decreases-loop-at l = length l.table - l.at
