@@ -1,5 +1,6 @@
 // The account table of document 01: whether it is well formed, and the account of a user.
 #![tactic(auto)]
+
 mod adding;
 mod names;
 

@@ -1,5 +1,6 @@
 // What a call answers, with the numbers of document 01, and the two kinds of identifier.
 #![tactic(auto)]
+
 ghost use Rattle.std.specs.Prelude.{◌≡◌};
 ghost use Rattle.answer.specs.Answer.{refusal_of, number_of};
 

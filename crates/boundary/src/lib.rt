@@ -1,6 +1,7 @@
 // What C and Rust link, declared in include/zirgumtak.h. Each slice is a pointer and a length there. The functions stand in crates/calls and
 // crates/wire.
 #![tactic(auto)]
+
 ghost use Rattle.std.specs.Prelude.{◌≡◌, []};
 ghost use Rattle.accounts.specs.Accounts.{check_number};
 ghost use Rattle.calls.specs.Done.{word_of, done, made};

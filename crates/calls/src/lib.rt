@@ -1,6 +1,7 @@
 // The calls that C and Rust link, over slices alone: the sizes are tested, the state is decoded, the end moves, and the state is
 // encoded again. A refused call writes no octet; each answers with one word.
 #![tactic(auto)]
+
 ghost use Rattle.std.specs.Prelude.{◌≡◌, [], ◌<◌, ◌≤◌, length};
 ghost use Rattle.octets.specs.Lists.{cells};
 ghost use Rattle.answer.specs.Answer.{number_of};

@@ -1,5 +1,6 @@
 // DES (FIPS 46-3). The bits stand in words: of the n bits of a word, bit 1 is the highest.
 #![tactic(auto)]
+
 ghost use Rattle.std.specs.Prelude.{◌≡◌, true, ◌*◌, ◌^◌, ◌≤◌, ◌<◌, ◌++◌, length, get_or, take, drop};
 ghost use Rattle.octets.specs.Lists.{cells};
 ghost use Rattle.des.specs.Tables.{ip_table, fp_table, e_table, p_table, pc1_table, pc2_table, shift_table, s_table};

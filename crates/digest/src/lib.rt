@@ -1,5 +1,6 @@
 // MD4 (RFC 1320) and SHA-1 (FIPS 180-1) of at most 65,536 octets.
 #![tactic(auto)]
+
 ghost use Rattle.std.specs.Prelude.{◌≡◌};
 ghost use Rattle.digest.specs.Md4.{told_md4, md4_told};
 ghost use Rattle.digest.specs.Sha1.{told_sha1, sha1_told};

@@ -1,5 +1,6 @@
 // What is wrong with a packet: the first condition of document 01, "What a call answers", that it breaks, in detail.
 #![tactic(auto)]
+
 ghost use Rattle.std.specs.Prelude.{◌≡◌, ◌≤◌, length};
 ghost use Rattle.answer.specs.Sizes.{max_packet};
 ghost use Rattle.packet.specs.Frame.{with_type};

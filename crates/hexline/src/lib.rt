@@ -1,5 +1,6 @@
 // A line of text as octets.
 #![tactic(auto)]
+
 ghost use Rattle.std.specs.Prelude.{◌≡◌, ◌<◌, ◌≤◌, length};
 ghost use Rattle.octets.specs.Lists.{over, Appended};
 ghost use Rattle.hexline.specs.Line.{is_gap, has_mark, size_of, is_piece, octet_in, octets_of, place_from, parsed_of, left};

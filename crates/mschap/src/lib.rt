@@ -1,5 +1,6 @@
 // The arithmetic of responses (RFC 2759, 8).
 #![tactic(auto)]
+
 ghost use Rattle.std.specs.Prelude.{◌≡◌, ◌++◌, ◌*◌, ◌+◌, ◌≤◌, ◌<◌, length, take};
 ghost use Rattle.octets.specs.Lists.{cells, over};
 ghost use Rattle.digest.specs.Md4.{md4_of};

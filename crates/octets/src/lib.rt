@@ -1,5 +1,6 @@
 // Octets of slices: total helpers, whatever the slice and the place.
 #![tactic(auto)]
+
 ghost use Rattle.std.specs.Prelude.{◌≡◌, ◌<◌, ◌≤◌, length, get_or, take, drop};
 ghost use Rattle.octets.specs.Lists.{cells, sized, put, Appended};
 ghost use Rattle.octets.specs.Octets.{octet_is, stands_at, same, pair_of, number_at, is_hex, all_hex, hex_stands, hex_value, hex_digit, hex_at, unhex_at, is_digit, digits, digit_value, number, decimal};

@@ -1,5 +1,6 @@
 // The packets of document 01, "Packet forms", and their reader.
 #![tactic(auto)]
+
 ghost use Rattle.std.specs.Prelude.{◌≡◌, false, not, ◌&&◌, ◌||◌, ◌+◌, ◌-◌, ◌≤◌, length, get_or, drop, ltb, leb, eqb};
 ghost use Rattle.octets.specs.Lists.{cells, sized, part};
 ghost use Rattle.octets.specs.Octets.{octet_is, number_at, number, unhex_at};

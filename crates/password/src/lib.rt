@@ -1,5 +1,6 @@
 // A password in UTF-8: its UTF-16 units and its hash.
 #![tactic(auto)]
+
 ghost use Rattle.std.specs.Prelude.{◌≡◌, ◌-◌, ◌≤◌, length};
 ghost use Rattle.password.specs.Utf8.{size_by, within, lowest, highest, is_tail, size_with, size_of, is_utf8};
 ghost use Rattle.password.specs.Utf16.{point_of_two, point_of_three, point_of_four, point_with, point_of, first_unit, second_unit, units_of, stride_of, utf16};

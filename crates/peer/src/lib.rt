@@ -1,5 +1,6 @@
 // The peer's end: document 01, "The logger's moves (peer)".
 #![tactic(auto)]
+
 ghost use Rattle.std.specs.Prelude.{◌≡◌, [], ◌≤◌, length, take, eqb};
 ghost use Rattle.octets.specs.Choice.{pick};
 ghost use Rattle.octets.specs.Octets.{same};

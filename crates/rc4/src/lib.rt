@@ -1,5 +1,6 @@
 // RC4 with a key of sixteen octets.
 #![tactic(auto)]
+
 ghost use Rattle.std.specs.Prelude.{◌≡◌, ◌<◌};
 ghost use Rattle.rc4.specs.Rc4.{Mixed, mixed, scheduled, output, enciphered};
 ghost use Rattle.octets.specs.Lists.{cells};

@@ -1,5 +1,6 @@
 // Account tables made of lines of text: document 01, "Account table".
 #![tactic(auto)]
+
 ghost use Rattle.std.specs.Prelude.{◌≡◌, ◌≤◌, length, take, drop};
 ghost use Rattle.octets.specs.Lists.{cells};
 ghost use Rattle.octets.specs.Octets.{unhex_at};

@@ -1,5 +1,6 @@
 // The server's end: start, packet and resend, each on the state by value.
 #![tactic(auto)]
+
 ghost use Rattle.std.specs.Prelude.{◌≡◌, ◌≤◌, true, length, ◌==◌};
 ghost use Rattle.octets.specs.Choice.{pick};
 ghost use Rattle.answer.specs.Answer.{number_of, refusal_of};

@@ -4,6 +4,7 @@
 // The server's 304:
 //   0 stage, 1 Identifier, 2 MS-CHAPv2-ID, 3 retries, 4 request length, 6 challenge, 22 request.
 #![tactic(auto)]
+
 ghost use Rattle.std.specs.Prelude.{◌≡◌, length, drop};
 ghost use Rattle.octets.specs.Lists.{sized};
 ghost use Rattle.octets.specs.Octets.{number_at};

@@ -1,5 +1,6 @@
 // The verdict on a Response: the only code that looks into the account table.
 #![tactic(auto)]
+
 ghost use Rattle.std.specs.Prelude.{◌≡◌, true, not, ◌≤◌, length, eqb};
 ghost use Rattle.octets.specs.Octets.{same};
 ghost use Rattle.answer.specs.Sizes.{max_name};

@@ -1,5 +1,6 @@
 // The reader and the stateless writers over slices alone, as C and Rust link them. Each answers with one word.
 #![tactic(auto)]
+
 ghost use Rattle.std.specs.Prelude.{◌≡◌, length};
 ghost use Rattle.octets.specs.Lists.{sized};
 ghost use Rattle.answer.specs.Answer.{number_of};

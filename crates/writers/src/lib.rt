@@ -1,5 +1,6 @@
 // The stateless writers, one for each row of the packet table, and one for octets that were written before.
 #![tactic(auto)]
+
 ghost use Rattle.std.specs.Prelude.{◌≡◌, true, ◌+◌, ◌≤◌, length};
 ghost use Rattle.octets.specs.Lists.{Appended};
 ghost use Rattle.octets.specs.Octets.{decimal};
