@@ -1,5 +1,5 @@
 -- What a call writes reads back, and what is outstanding.
-use Rattle.std.proofs.Common.{◌≡◌, ℕ, ◌+◌, ◌≤◌, true, eqb, List, [], ◌∷◌, ◌++◌, length, drop, sym, refl, ap, ◌∙◌, inl, inr, arith, eqb-true}
+use Rattle.std.proofs.Common.{◌≡◌, ℕ, ◌≤◌, true, eqb, List, [], ◌∷◌, ◌++◌, length, drop, sym, refl, ap, ◌∙◌, inl, inr, arith, eqb-true}
 use Rattle.octets.specs.Choice.{pick}
 use Rattle.octets.specs.Octets.{AreOctets, number_at, decimal}
 use Rattle.octets.specs.declared.Order.TheVariants.{Big}

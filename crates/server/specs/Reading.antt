@@ -1,5 +1,5 @@
 -- What a call writes reads back at the peer's end as the packet meant; and so does the outstanding request, over any calls on from a new server.
-use Rattle.std.specs.Prelude.{◌≡◌, ℕ, ◌+◌, ◌≤◌, true, ◌⊎◌, List, [], ◌++◌, length}
+use Rattle.std.specs.Prelude.{◌≡◌, ℕ, ◌≤◌, true, ◌⊎◌, List, [], ◌++◌, length}
 use Rattle.octets.specs.Lists.{cells}
 use Rattle.octets.specs.Octets.{number_at, hex_at}
 use Rattle.octets.specs.declared.Order.TheVariants.{Big}
