@@ -12,6 +12,6 @@ step_spec =
     tie.close
     (tie.spec
     (λ c κs. search rules)
-    (λ c κs. rw c.before.read.ensures (read_within _ _))
+    (λ c κs. rw c.before.read-x.ensures (read_within _ _))
     (λ c. search rules)
     (λ c. stepped_by _ _ _ _ _ _ _ c.before.before.take_reading.ensures (cc) (cc)))
