@@ -51,7 +51,7 @@ earns {p} h f =
     (record { stage = t.stage; packet = t.packet; reads = t.reads; success = t.success; right = t.right ∙ ap digits_of (kept_string p h t.stage) }, f.1)
 
 -- ---- the stage is entered by the right string alone
-moved_enters : {p : Peer} {s random : List ℕ} {room : ℕ} {o : Outcome Peer} → Invariant p → (k : Packet) → read_packet end.Peer s ≡ gives k → Moved p k (take k.length s) random room o → o.state.stage ≡ SuccessResponseSent → Earns p s o.number
+moved_enters : {p : Peer} {s random : List ℕ} {room : ℕ} → Invariant p → (k : Packet) {o : Outcome Peer} → read_packet end.Peer s ≡ gives k → Moved p k (take k.length s) random room o → o.state.stage ≡ SuccessResponseSent → Earns p s o.number
 unfolding responded answered awaiting staged
 moved_enters a k e (responds f g h) z = apart ChallengeResponseSent refl z
 moved_enters a k e (accepts f g r h) z = earns a (record { stage = f; packet = k; reads = e; success = g; right = r }, refl)
@@ -122,7 +122,7 @@ kept_success Waiting p id f k z = clash refl f
 kept_success Success p id f k z = clash refl f
 kept_success Failed p id f k z = clash refl f
 
-moved_sends : {p : Peer} {s random : List ℕ} {room id : ℕ} {o : Outcome Peer} → Invariant p → (k : Packet) → read_packet end.Peer s ≡ gives k → Moved p k (take k.length s) random room o → (o.octets ≡ success_response id) ⊎ (o.number ≡ 2) → (p.stage ≡ SuccessResponseSent) ⊎ Earns p s o.number
+moved_sends : {p : Peer} {s random : List ℕ} {room id : ℕ} → Invariant p → (k : Packet) {o : Outcome Peer} → read_packet end.Peer s ≡ gives k → Moved p k (take k.length s) random room o → (o.octets ≡ success_response id) ⊎ (o.number ≡ 2) → (p.stage ≡ SuccessResponseSent) ⊎ Earns p s o.number
 moved_sends a k e m (inl z) = inr (earns a (moved_confirms k e m z))
 moved_sends a k e (responds f g h) (inr z) = absurd (omega arith)
 moved_sends a k e (accepts f g r h) (inr z) = absurd (omega arith)

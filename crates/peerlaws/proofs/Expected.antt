@@ -28,7 +28,7 @@ use Rattle.peer.specs.Moves.{takes, move_of, sent, repeats, misnumbered, turn_of
 use Rattle.peer.specs.Calls.{new_of, answer_of, moved_by, turn_in, taken_by, read_by, step_by, step_of}
 use Rattle.peerlaws.specs.Runs.{Call, step, supply, give_up, call_of, AreCalls}
 use Rattle.peerlaws.specs.Expected.{ResponseMade, ExpectedString, computing, outcomes, AnswersStay}
-use Rattle.peerlaws.proofs.Views.{responds, accepts, fails, waits, succeeds, ends, Stepped, stepped, Supplied, supplied, GaveUp, gave_up}
+use Rattle.peerlaws.proofs.Views.{Moved, responds, accepts, fails, waits, succeeds, ends, Stepped, stepped, Supplied, supplied, GaveUp, gave_up}
 use Rattle.peerlaws.proofs.Views as view
 use Rattle.peerlaws.proofs.Consistent.{Invariant, made, call_holds, reached, kept_string}
 
@@ -38,16 +38,19 @@ unfolding new_of initial
 new_zero name hash = arms (λ (o : Outcome Peer). o.state.challenges.expected ≡ replicate 20 0) _ refl refl
 
 -- ---- set by a call that makes a Response
-step_sets : {p : Peer} {s random : List ℕ} {room : ℕ} {o : Outcome Peer} → Stepped p s random room o → p.stage ≡ Begin → o.number ≡ 0 → o.state.challenges.expected ≡ computed_string o.state
+moved_sets : {p : Peer} {q random : List ℕ} {room : ℕ} (k : Packet) {o : Outcome Peer} → Moved p k q random room o → p.stage ≡ Begin → o.number ≡ 0 → o.state.challenges.expected ≡ computed_string o.state
 unfolding responded computed_string own_name
+moved_sets k (responds f g h) b z = refl
+moved_sets k (accepts f g d h) b z = clash (ap sent b) (ap sent f)
+moved_sets k (fails f g h) b z = clash (ap sent b) (ap sent f)
+moved_sets k (waits f g) b z = absurd (omega arith)
+moved_sets k (succeeds f) b z = absurd (omega arith)
+moved_sets k ends b z = absurd (omega arith)
+
+step_sets : {p : Peer} {s random : List ℕ} {room : ℕ} {o : Outcome Peer} → Stepped p s random room o → p.stage ≡ Begin → o.number ≡ 0 → o.state.challenges.expected ≡ computed_string o.state
 step_sets (view.refuses n h l) b z = absurd (omega arith)
 step_sets (view.repeats_it r h) b z = clash (ap sent b) r.stage
-step_sets (view.moves k e (responds f g h)) b z = refl
-step_sets (view.moves k e (accepts f g d h)) b z = clash (ap sent b) (ap sent f)
-step_sets (view.moves k e (fails f g h)) b z = clash (ap sent b) (ap sent f)
-step_sets (view.moves k e (waits f g)) b z = absurd (omega arith)
-step_sets (view.moves k e (succeeds f)) b z = absurd (omega arith)
-step_sets (view.moves k e ends) b z = absurd (omega arith)
+step_sets (view.moves k e m) b z = moved_sets k m b z
 
 supply_sets : {p : Peer} {name hash random : List ℕ} {room : ℕ} {o : Outcome Peer} → Supplied p name hash random room o → o.number ≡ 0 → o.state.challenges.expected ≡ computed_string o.state
 unfolding supplied_state computed_string own_name
@@ -61,16 +64,19 @@ call_sets p (supply name hash random room) m = supply_sets (supplied p name hash
 call_sets p give_up m = absurd m
 
 -- ---- left alone by any other
-step_leaves : {p : Peer} {s random : List ℕ} {room : ℕ} {o : Outcome Peer} → Stepped p s random room o → ((p.stage ≡ Begin) × (o.number ≡ 0) → ⊥) → o.state.challenges.expected ≡ p.challenges.expected
+moved_leaves : {p : Peer} {q random : List ℕ} {room : ℕ} (k : Packet) {o : Outcome Peer} → Moved p k q random room o → ((p.stage ≡ Begin) × (o.number ≡ 0) → ⊥) → o.state.challenges.expected ≡ p.challenges.expected
 unfolding answered awaiting staged
+moved_leaves k (responds f g h) m = absurd (m (f, refl))
+moved_leaves k (accepts f g d h) m = refl
+moved_leaves k (fails f g h) m = refl
+moved_leaves k (waits f g) m = refl
+moved_leaves k (succeeds f) m = refl
+moved_leaves k ends m = refl
+
+step_leaves : {p : Peer} {s random : List ℕ} {room : ℕ} {o : Outcome Peer} → Stepped p s random room o → ((p.stage ≡ Begin) × (o.number ≡ 0) → ⊥) → o.state.challenges.expected ≡ p.challenges.expected
 step_leaves (view.refuses n h l) m = refl
 step_leaves (view.repeats_it r h) m = refl
-step_leaves (view.moves k e (responds f g h)) m = absurd (m (f, refl))
-step_leaves (view.moves k e (accepts f g d h)) m = refl
-step_leaves (view.moves k e (fails f g h)) m = refl
-step_leaves (view.moves k e (waits f g)) m = refl
-step_leaves (view.moves k e (succeeds f)) m = refl
-step_leaves (view.moves k e ends) m = refl
+step_leaves (view.moves k e x) m = moved_leaves k x m
 
 supply_leaves : {p : Peer} {name hash random : List ℕ} {room : ℕ} {o : Outcome Peer} → Supplied p name hash random room o → (o.number ≡ 0 → ⊥) → o.state.challenges.expected ≡ p.challenges.expected
 supply_leaves (view.refuses n h l) m = refl

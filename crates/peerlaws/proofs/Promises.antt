@@ -81,7 +81,7 @@ response_op id chapid own response name = refl
 pub other : {A : Type 0} (q : List ℕ) (id x : ℕ) → get_or q 5 0 ≡ x → (x ≡ 3 → ⊥) → q ≡ success_response id → A
 other q id x f n e = absurd (n (sym f ∙ ap (λ (l : List ℕ). get_or l 5 0) e))
 
-pub moved_confirms : {p : Peer} {s random : List ℕ} {room id : ℕ} {o : Outcome Peer} (k : Packet) → read_packet end.Peer s ≡ gives k → Moved p k (take k.length s) random room o → o.octets ≡ success_response id → Confirms (right_digits p) p s × (o.number ≡ 0)
+pub moved_confirms : {p : Peer} {s random : List ℕ} {room id : ℕ} (k : Packet) {o : Outcome Peer} → read_packet end.Peer s ≡ gives k → Moved p k (take k.length s) random room o → o.octets ≡ success_response id → Confirms (right_digits p) p s × (o.number ≡ 0)
 unfolding response_to
 moved_confirms k e (responds f g h) z = other _ _ 2 (response_op _ _ _ _ _) (λ n. absurd (omega arith)) z
 moved_confirms k e (accepts f g r h) z = (record { stage = f; packet = k; reads = e; success = g; right = r }, refl)

@@ -33,7 +33,7 @@ use Rattle.peerlaws.proofs.Views as view
 use Rattle.peerlaws.proofs.Repeats.{all_same}
 
 -- ---- 8. The kept request
-moved_request : {p : Peer} {random : List ℕ} {room : ℕ} {o : Outcome Peer} (s : List ℕ) (k : Packet) → read_packet end.Peer s ≡ gives k → Moved p k (take k.length s) random room o → o.number ≤ 1 → last_request o.state ≡ take k.length s
+moved_request : {p : Peer} {random : List ℕ} {room : ℕ} (s : List ℕ) (k : Packet) {o : Outcome Peer} → read_packet end.Peer s ≡ gives k → Moved p k (take k.length s) random room o → o.number ≤ 1 → last_request o.state ≡ take k.length s
 unfolding responded answered awaiting last_request
 moved_request s k e (responds f g h) z = take_sized max_packet _ (cut_most s k e)
 moved_request s k e (accepts f g r h) z = take_sized max_packet _ (cut_most s k e)
@@ -124,7 +124,7 @@ module _ (p : Peer) (s random other : List ℕ) (room : ℕ) (r : length random 
   step_alike (wrong_identifier k e n t m) = alike _ (wrong_identifier k e n t m)
   step_alike (taken k e n m t) = row_alike k e n m t
 
-  moved_made : {o : Outcome Peer} (k : Packet) → read_packet end.Peer s ≡ gives k → Moved p k (take k.length s) random room o → step_of p s random room ≡ o → p.stage ≡ Begin → o.number ≡ 0 → Responds p s random room
+  moved_made : (k : Packet) {o : Outcome Peer} → read_packet end.Peer s ≡ gives k → Moved p k (take k.length s) random room o → step_of p s random room ≡ o → p.stage ≡ Begin → o.number ≡ 0 → Responds p s random room
   moved_made k e (responds f g h) is b z = record { packet = k; reads = e; challenge = g; is = is }
   moved_made k e (accepts f g d h) is b z = clash (ap sent b) (ap sent f)
   moved_made k e (fails f g h) is b z = clash (ap sent b) (ap sent f)
