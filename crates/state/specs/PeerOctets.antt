@@ -17,11 +17,11 @@ hash_at = 8
 abbrev pub authenticator_at : ℕ
 authenticator_at = hash_at + 16
 
-abbrev pub field_own : ℕ
-field_own = authenticator_at + 16
+abbrev pub own_at : ℕ
+own_at = authenticator_at + 16
 
 abbrev pub name_at : ℕ
-name_at = field_own + 16
+name_at = own_at + 16
 
 abbrev pub request_at : ℕ
 request_at = name_at + max_name
@@ -53,7 +53,7 @@ unfoldable pub peer_of : List ℕ → Peer
 peer_of s = record {
   stage = peer_stage_of (get_or s 0 0);
   credentials = record { name = sized max_name (drop name_at s); namelen = number_at Little s 2; hash = sized 16 (drop hash_at s) };
-  challenges = record { authenticator = sized 16 (drop authenticator_at s); own = sized 16 (drop field_own s); chapid = record { 0 = get_or s 1 0 }; expected = sized 20 (drop expected_at s) };
+  challenges = record { authenticator = sized 16 (drop authenticator_at s); own = sized 16 (drop own_at s); chapid = record { 0 = get_or s 1 0 }; expected = sized 20 (drop expected_at s) };
   request = sized max_packet (drop request_at s);
   requestlen = number_at Little s 4;
   reply = sized reply_room (drop reply_at s);
