@@ -18,4 +18,4 @@ unit_at_spec =
     (λ c. search rules)
     (λ c. search rules)
     (λ c. search rules)
-    (λ c. simp (c.before.octet.ensures, c.octet2.ensures)))
+    (λ c. simp (c.before.octet-low.ensures, c.octet-high.ensures)))
