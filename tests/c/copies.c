@@ -8,9 +8,9 @@
 #include "zirgumtak.h"
 
 #define PEER_COPY 1000
-#define PEER_MOST 3
+#define PEER_MOST 7
 #define SERVER_COPY 250
-#define SERVER_MOST 4
+#define SERVER_MOST 7
 
 void *__real_memcpy(void *to, const void *from, size_t n);
 void *__real_memmove(void *to, const void *from, size_t n);
