@@ -10,7 +10,7 @@ use Rattle.octets.specs.Lists.{cells}
 use Rattle.octets.proofs.Lists.{length_cells, get_or_cells, cells_same}
 use Rattle.des.specs.Bits.{bit_of, bits_of, group_at}
 use Rattle.des.specs.Keys.{with_parity, key_octet, key_octets, seven_of, KeysEight, KeysOdd, KeysBack}
-use Rattle.des.proofs.Numbers.{length_bits, get_d_bits, groups_bits, bits_groups}
+use Rattle.des.proofs.Numbers.{length_bits, get_or_bits, groups_bits, bits_groups}
 
 -- the low bit b makes the number of ones odd
 ones_low : (n b : ℕ) → b < 2 → ones (2 * n + b) ≡ b + ones n
@@ -46,6 +46,6 @@ key_back k e small =
     cells_same 8 (λ i. get_or (key_octets k) i 0 / 2) (group_at 7 b)
     (λ i h. ap (λ (x : ℕ). x / 2) (get_or_cells 8 (key_octet b) i h) ∙ parity_half (group_at 7 b i))
     in
-    let bit : (i : ℕ) → i < 56 → get_or b i 0 < 2 = λ i h. rw (get_d_bits 8 k i (omega arith)) (mod-lt _ (omega arith)) in
+    let bit : (i : ℕ) → i < 56 → get_or b i 0 < 2 = λ i h. rw (get_or_bits 8 k i (omega arith)) (mod-lt _ (omega arith)) in
     let same : bits_of 7 (cells 8 (λ i. get_or (key_octets k) i 0 / 2)) ≡ b = ap (bits_of 7) halves ∙ groups_bits 7 8 (omega arith) b long bit in
     ap (λ (l : List ℕ). cells 7 (group_at 8 l)) same ∙ bits_groups 8 7 (omega arith) k e small

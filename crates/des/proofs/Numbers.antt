@@ -17,9 +17,9 @@ pub length_bits : (w : ℕ) (s : List ℕ) → length (bits_of w s) ≡ w * leng
 unfolding bits_of
 length_bits w s = length_cells (w * length s) (bit_of w s)
 
-pub get_d_bits : (w : ℕ) (s : List ℕ) (i : ℕ) → i < w * length s → get_or (bits_of w s) i 0 ≡ bit_of w s i
+pub get_or_bits : (w : ℕ) (s : List ℕ) (i : ℕ) → i < w * length s → get_or (bits_of w s) i 0 ≡ bit_of w s i
 unfolding bits_of
-get_d_bits w s i h = get_or_cells (w * length s) (bit_of w s) i h
+get_or_bits w s i h = get_or_cells (w * length s) (bit_of w s) i h
 
 pub length_in : (n w : ℕ) → length (bits_in n w) ≡ n
 unfolding bits_in
@@ -120,7 +120,7 @@ module _ (w n : ℕ) (some : 0 < w) where
           let j = i % w in
           let l : q < n = group_of i h in
           let k : j < w = mod-lt i some in
-          get_d_bits w (cells n (group_at w b)) i (rw (length_cells n (group_at w b)) h)
+          get_or_bits w (cells n (group_at w b)) i (rw (length_cells n (group_at w b)) h)
           ∙ ap (λ (x : ℕ). x / 2 ^ (w - 1 - j) % 2) (get_or_cells n (group_at w b) q l)
           ∙ number_bit w (part b (w * q) w) j (part_long b q e l) k
           ∙ ap (λ (x : ℕ). x % 2) (get_or-take w (drop (w * q) b) j 0 k ∙ get_or-drop (w * q) b j 0 ∙ ap (λ (p : ℕ). get_or b p 0) (div-add-mod i w))
@@ -143,7 +143,7 @@ module _ (w n : ℕ) (some : 0 < w) where
           let i : w * q + j < w * length s = omega (arith, group_ends q l, ap (λ (t : ℕ). w * t) e) in
           get_or-take w (drop (w * q) (bits_of w s)) j 0 k
           ∙ get_or-drop (w * q) (bits_of w s) j 0
-          ∙ get_d_bits w s (w * q + j) i
+          ∙ get_or_bits w s (w * q + j) i
           ∙ ap₂ (λ (x y : ℕ). get_or s x 0 / 2 ^ (w - 1 - y) % 2) d m
 
       number : (q : ℕ) → q < n → group_at w (bits_of w s) q ≡ get_or s q 0

@@ -11,7 +11,7 @@ use borrow.Author.Tests.{eqb-true, ltb-true, leb-true}
 use Rattle.octets.specs.Choice.{pick}
 use Rattle.octets.proofs.Tables.{below, first_of, second_of, at_each}
 use Rattle.des.specs.Tables.{s_table, shift_table}
-use Rattle.des.specs.Rows.{count, row_of, Permutation, RowsPermute, LookedUp}
+use Rattle.des.specs.Rows.{count, row_of, RowsPermute, LookedUp}
 
 -- row k / 16 holds k % 16 once, and the number at k is below 16
 right : ℕ → Bool

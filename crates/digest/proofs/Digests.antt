@@ -4,7 +4,7 @@ use Rattle.octets.specs.Lists.{cells}
 use Rattle.octets.specs.declared.Order.{Order}
 use Rattle.octets.proofs.Exits.{below, pick_false}
 use Rattle.octets.proofs.Lists.{length_cells, get_or_cells}
-use Rattle.octets.proofs.Scans.{get_d_past}
+use Rattle.octets.proofs.Scans.{get_or_past}
 use Rattle.answer.specs.Outcome.{Told, gives}
 use Rattle.digest.specs.Blocks.{octet_of, octet_at}
 use Rattle.digest.specs.Md4.{output, md4_of, md4_told, told_md4}
@@ -28,7 +28,7 @@ unfolding octet_at octet_of
 octets_below o ws n k =
     below k n
     (λ h. rw (get_or_cells n (octet_at o ws) k h) (omega arith))
-    (λ h. rw (← get_d_past (cells n (octet_at o ws)) k (rw (length_cells n (octet_at o ws)) h)) (omega arith))
+    (λ h. rw (← get_or_past (cells n (octet_at o ws)) k (rw (length_cells n (octet_at o ws)) h)) (omega arith))
 
 pub sha1_octet : (m : List ℕ) (k : ℕ) → get_or (sha1_of m) k 0 < 256
 unfolding sha1_of sha1.output

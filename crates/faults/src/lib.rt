@@ -22,6 +22,7 @@ fn challenge_fault(q: &[u8]) -> u16
     0
 }
 
+#[tactic(auto, using(octets::proofs::Exits::exits), unfolding(crate::specs::Faults::response_fault))]
 fn response_fault(q: &[u8]) -> u16
     ensures { result ≡ response_fault q.now }
 {

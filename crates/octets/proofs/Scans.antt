@@ -19,8 +19,8 @@ use Rattle.octets.proofs.Exits.{exits, pick_true, pick_false}
 use Rattle.octets.proofs.Lists.{cells_same, sized_own, put_front}
 use Rattle.octets.proofs.Loops.{Filled, fill_more, fill_done, loops}
 
-pub get_d_past : (s : List ℕ) (i : ℕ) → length s ≤ i → 0 ≡ get_or s i 0
-get_d_past s i h = sym (get_or-eq_default s 0 h)
+pub get_or_past : (s : List ℕ) (i : ℕ) → length s ≤ i → 0 ≡ get_or s i 0
+get_or_past s i h = sym (get_or-eq_default s 0 h)
 
 -- ---- a slice filled by what another has, and then by zeros
 pub record Filling (src : List ℕ) (n : ℕ) (dst : List ℕ) (i : ℕ) : Type 0 where
@@ -44,7 +44,7 @@ fill_copied d src t l n e f g =
     }
 
 pub fill_zeroed : {src dst : List ℕ} {n i : ℕ} → Filling src n dst i → i < n → Filling src n (set dst i 0) (i + 1)
-fill_zeroed {src} {dst} {n} {i} p h = record { past = omega arith; filled = fill_more p.filled h (get_d_past src i (omega (arith, length-take n src))) }
+fill_zeroed {src} {dst} {n} {i} p h = record { past = omega arith; filled = fill_more p.filled h (get_or_past src i (omega (arith, length-take n src))) }
 
 pub fill_sized : {src dst : List ℕ} {n i : ℕ} → Filling src n dst i → n ≤ i → dst ≡ sized n src
 unfolding sized
@@ -54,7 +54,7 @@ pub number_past : (o : Order) (p : List ℕ) (i r : ℕ) → length p ≤ i → 
 unfolding number_at
 number_past o p i r h e =
     let k : length p ≤ i + 1 = omega arith in
-    e ∙ (λ j. pair_of o (get_d_past p i h j) (get_d_past p (i + 1) k j))
+    e ∙ (λ j. pair_of o (get_or_past p i h j) (get_or_past p (i + 1) k j))
 
 -- ---- equality
 pub same_refl : (a : List ℕ) → same a a ≡ true
@@ -155,7 +155,7 @@ unfolding unhex_at hex_value pick
 unhex_past d k h =
     let e : length d ≤ k * 2 = omega arith in
     let f : length d ≤ k * 2 + 1 = omega arith in
-    rw (← get_d_past d (k * 2) e, ← get_d_past d (k * 2 + 1) f)
+    rw (← get_or_past d (k * 2) e, ← get_or_past d (k * 2 + 1) f)
 
 -- ---- decimal digits
 pub digits_more : (s : List ℕ) (i : ℕ) → i < length s → is_digit (get_or s i 0) ≡ true → i + digits (drop i s) ≡ i + 1 + digits (drop (i + 1) s)
@@ -218,4 +218,4 @@ pub number_done : {s : List ℕ} {acc i : ℕ} → Numbered s acc i → length s
 unfolding number_from
 number_done {s} {acc} {i} p h = sym (p.is ∙ simp (drop_of_length-le s h))
 
-pub ruleset octets = (exits, loops, get_d_past, same_other, compare_none, compare_more, compare_done, hex_more, hex_not, hex_done, digits_more, digits_here, digits_done, number_none, number_more, number_done)
+pub ruleset octets = (exits, loops, get_or_past, same_other, compare_none, compare_more, compare_done, hex_more, hex_not, hex_done, digits_more, digits_here, digits_done, number_none, number_more, number_done)

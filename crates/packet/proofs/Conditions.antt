@@ -13,7 +13,7 @@ use Rattle.octets.specs.Octets.{AreOctets, number_at}
 use Rattle.octets.specs.declared.Order.TheVariants.{Big}
 use Rattle.octets.proofs.Exits.{picked, below, clash, or_none}
 use Rattle.octets.proofs.Parts.{number_take}
-use Rattle.octets.proofs.Scans.{get_d_past}
+use Rattle.octets.proofs.Scans.{get_or_past}
 use Rattle.answer.specs.Outcome.{Told, gives}
 use Rattle.answer.specs.Sizes.{max_packet}
 use Rattle.packet.specs.declared.End.{End}
@@ -147,7 +147,7 @@ module _ (p : List ℕ) (o : AreOctets p) (f : InFrame p) where
   there i n e h =
       below i (length_of p)
       (λ l. (omega arith, sym (here i l) ∙ e))
-      (λ g. let z : 0 ≡ get_or q i 0 = get_d_past q i (omega (arith, size)) in absurd (omega arith))
+      (λ g. let z : 0 ≡ get_or q i 0 = get_or_past q i (omega (arith, size)) in absurd (omega arith))
 
   -- octet i is not there, or is none that fits
   unlike : {A : Type 0} (i : ℕ) → (get_or q i 0 ≡ get_or p i 0 → A) → (length_of p < i + 1) ⊎ A

@@ -9,7 +9,7 @@ use lib.Dec.{ltb, eqb}
 use borrow.Author.Tests.{ltb-true, eqb-true}
 use Rattle.octets.specs.Choice.{pick}
 use Rattle.octets.proofs.Exits.{tested}
-use Rattle.octets.proofs.Scans.{get_d_past}
+use Rattle.octets.proofs.Scans.{get_or_past}
 use Rattle.answer.specs.Outcome.{Told}
 use Rattle.packet.specs.declared.End.{End}
 use Rattle.packet.specs.declared.End.TheVariants.{Peer, Server}
@@ -24,7 +24,7 @@ opened_plain : (q : List ℕ) → opened q ≡ row_of (code_of q) (get_or q 5 0)
 unfolding opened row_of pick
 opened_plain q =
     tested (ltb (length q) 6)
-    (λ t. let z : get_or q 5 0 ≡ 0 = sym (get_d_past q 5 (omega (arith, ltb-true (length q) 6 t))) in rw (t, z) (none (eqb (code_of q) 1) (eqb (code_of q) 2) _))
+    (λ t. let z : get_or q 5 0 ≡ 0 = sym (get_or_past q 5 (omega (arith, ltb-true (length q) 6 t))) in rw (t, z) (none (eqb (code_of q) 1) (eqb (code_of q) 2) _))
     (λ t. rw t (some (with_type (code_of q)) _))
   where
     none : (c1 c2 : Bool) (x : Told Packet) → pick ((c1 || c2) && true) (refusal 15) (pick c1 (refusal 15) (pick c2 (refusal 15) x)) ≡ pick c1 (refusal 15) (pick c2 (refusal 15) x)

@@ -10,7 +10,7 @@ use lib.Dec.{ltb, eqb}
 use borrow.Author.Tests.{ltb-true, ltb-false, lt-ltb, le-ltb}
 use Rattle.octets.specs.Choice.{pick}
 use Rattle.octets.proofs.Exits.{arms, picked, tested, pick_true, pick_false, or_first, or_none}
-use Rattle.octets.proofs.Scans.{get_d_past}
+use Rattle.octets.proofs.Scans.{get_or_past}
 use Rattle.answer.specs.declared.Refusal.{Refusal}
 use Rattle.answer.specs.Answer.{refusal_of}
 use Rattle.answer.specs.Outcome.{Told, gives, refuses}
@@ -37,7 +37,7 @@ in_frame p b c = let d = neither _ _ b in record { least = ltb-false _ _ d.0; in
 pub absent : (f : ℕ → Bool) (q : List ℕ) (i : ℕ) → f 0 ≡ false → (ltb (length q) (i + 1) || not (f (get_or q i 0))) ≡ not (f (get_or q i 0))
 absent f q i e =
     tested (ltb (length q) (i + 1))
-    (λ t. or_first _ _ t ∙ sym (ap not (ap f (sym (get_d_past q i (omega (arith, ltb-true (length q) (i + 1) t)))) ∙ e)))
+    (λ t. or_first _ _ t ∙ sym (ap not (ap f (sym (get_or_past q i (omega (arith, ltb-true (length q) (i + 1) t)))) ∙ e)))
     (λ t. ap (λ (o : Bool). o || not (f (get_or q i 0))) t)
 
 module _ {A : Type 0} (refuse : ℕ → A) (next : List ℕ → A) where

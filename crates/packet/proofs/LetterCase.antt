@@ -12,7 +12,7 @@ use Rattle.octets.specs.Lists.{part, pasted}
 use Rattle.octets.specs.Octets.{AreOctets, is_hex, all_hex, hex_value, unhex_at}
 use Rattle.octets.proofs.Exits.{pick_true, pick_false, pick_both, below, clash}
 use Rattle.octets.proofs.Lists.{get_or_cells}
-use Rattle.octets.proofs.Scans.{get_d_past}
+use Rattle.octets.proofs.Scans.{get_or_past}
 use Rattle.octets.proofs.Parts.{length_part, drop_next}
 use Rattle.packet.specs.declared.Kind.{Kind}
 use Rattle.packet.specs.declared.End.TheVariants.{Peer}
@@ -93,7 +93,7 @@ module _ (c c' : List ℕ) (n : length c ≡ 32) (n' : length c' ≡ 32) (t : al
       (below (k % 2) 1
       (λ l. let e : k / 2 * 2 ≡ k = omega arith in rw e at (values (k / 2) (omega arith)).0)
       (λ g. let e : k / 2 * 2 + 1 ≡ k = omega arith in rw e at (values (k / 2) (omega arith)).1)))
-      (λ h. rw (← get_d_past c k (omega arith), ← get_d_past c' k (omega arith)) (equal 0))
+      (λ h. rw (← get_or_past c k (omega arith), ← get_or_past c' k (omega arith)) (equal 0))
 
 -- ---- the rest
 module _ (id chapid r : ℕ) (e v text : List ℕ) where

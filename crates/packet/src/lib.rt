@@ -213,6 +213,7 @@ fn read_challenge(q: &[u8]) -> Reading
     chap_read(Kind::Challenge, q, 0, CHALLENGE, NOWHERE, CHALLENGE_NAME_AT)
 }
 
+#[tactic(auto, using(octets::proofs::Exits::exits), unfolding(crate::specs::Reader::response_formed))]
 fn response_formed(q: &[u8]) -> bool
     ensures { result ≡ response_formed q.now }
 {
@@ -250,6 +251,7 @@ fn read_response(q: &[u8]) -> Reading
     )
 }
 
+#[tactic(auto, using(octets::proofs::Exits::exits), unfolding(crate::specs::Reader::success_formed))]
 fn success_formed(q: &[u8]) -> bool
     ensures { result ≡ success_formed q.now }
 {

@@ -1,6 +1,5 @@
 use Rattle.faults.specs.Faults.{rest_fault}
 use Rattle.octets.proofs.Exits.{exits}
-use borrow.Author.Rules.{rules}
 use Rattle.faults.proofs.rest_fault.Goals as goal
 
 pub returns-then-not-stands_at : goal.returns-then-not-stands_at

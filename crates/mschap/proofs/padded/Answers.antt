@@ -1,5 +1,4 @@
 use Rattle.mschap.specs.Responses.{padding}
-use borrow.Author.Rules.{rules}
 use Rattle.mschap.proofs.padded.Goals as goal
 
 pub returns : goal.returns

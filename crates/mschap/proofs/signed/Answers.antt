@@ -1,5 +1,4 @@
 use Rattle.mschap.specs.Responses.{magic}
-use borrow.Author.Rules.{rules}
 use Rattle.mschap.proofs.signed.Goals as goal
 
 pub returns : goal.returns

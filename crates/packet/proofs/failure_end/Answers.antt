@@ -1,6 +1,5 @@
 use Rattle.packet.specs.Inner.{failure_end}
 use Rattle.octets.proofs.Exits.{exits}
-use borrow.Author.Rules.{rules}
 use Rattle.packet.proofs.failure_end.Goals as goal
 
 pub returns-then-not-is_version : goal.returns-then-not-is_version

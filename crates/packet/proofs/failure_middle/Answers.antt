@@ -1,6 +1,5 @@
 use Rattle.packet.specs.Inner.{failure_middle}
 use Rattle.octets.proofs.Exits.{exits}
-use borrow.Author.Rules.{rules}
 use Rattle.packet.proofs.failure_middle.Goals as goal
 
 pub returns-then-not-few_digits : goal.returns-then-not-few_digits

@@ -1,6 +1,5 @@
 use Rattle.packet.proofs.Steps.{failure_short, failure_unlike, failure_by}
 use Rattle.octets.proofs.Exits.{exits}
-use borrow.Author.Rules.{rules}
 use Rattle.packet.proofs.read_failure.Goals as goal
 
 pub returns-then-bad_ms_length : goal.returns-then-bad_ms_length

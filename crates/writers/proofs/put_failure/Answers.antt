@@ -1,7 +1,5 @@
 use Rattle.octets.proofs.Appends.{laid_more, laid_done}
 use Rattle.writers.proofs.Layouts.{laid_failure}
-use native.Mathlib.Omega.{arith}
-use borrow.Author.Rules.{rules}
 use Rattle.writers.proofs.put_failure.Goals as goal
 
 pub returns : goal.returns

@@ -1,6 +1,5 @@
 use Rattle.std.proofs.Common.{ap, not}
 use Rattle.accounts.proofs.Laying.{appends, append_ready}
-use borrow.Author.Rules.{rules}
 use Rattle.accounts.proofs.adding.append.Goals as goal
 
 pub returns-then-table-used : goal.returns-then-table-used

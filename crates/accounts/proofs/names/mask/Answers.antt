@@ -1,4 +1,3 @@
-use borrow.Author.Rules.{rules}
 use Rattle.accounts.specs.Inner.{name_mask}
 use Rattle.accounts.proofs.names.mask.Goals as goal
 
