@@ -1,7 +1,8 @@
 /* Counts how often each call copies the long array of its state, the peer's request of 1,020 octets or the server's
  * of 282, alone, with more of the state, or but for a few octets. A call decodes the state, makes the state after it, and
- * encodes that: three copies. A server that judged a Response makes one more. A call that makes more ends this program with
- * status 1. tests/c/run links it so that the archive's memcpy and memmove are those below. */
+ * encodes that: three copies. Where a state is passed by value through functions that choose by match, the back end makes up to four
+ * more. A call that makes more ends this program with status 1. tests/c/run links it so that the archive's memcpy and memmove are
+ * those below. */
 #include <stdio.h>
 #include <string.h>
 
