@@ -1,5 +1,5 @@
 //! Links the archive: the one that `ZIRGUMTAK_ARCHIVE` names, or the one that
-//! `rt staticlib boundary` makes.
+//! `tools/check boundary` makes.
 
 use std::env;
 use std::path::{Path, PathBuf};
@@ -28,7 +28,7 @@ fn link(archive: &Path) -> Result<(), String> {
     println!("cargo::rerun-if-changed={path}");
     if !archive.is_file() {
         println!(
-            "cargo::warning=no archive at {path}: make it with `rt staticlib boundary`, or name one in ZIRGUMTAK_ARCHIVE"
+            "cargo::warning=no archive at {path}: make it with `tools/check boundary`, or name one in ZIRGUMTAK_ARCHIVE"
         );
     }
     let folder = archive.parent().ok_or("the archive is in no folder")?;

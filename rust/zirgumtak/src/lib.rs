@@ -1,6 +1,6 @@
 //! EAP-MSCHAPv2, peer and server: a safe wrapper of the proved archive.
 //!
-//! The archive is made by `rt staticlib boundary`. Its functions are proved to meet their
+//! The archive is made by `tools/check boundary`. Its functions are proved to meet their
 //! contracts; this crate adds types, so that no buffer of a wrong size can be passed, and nothing
 //! else. It needs no `std`, allocates nothing and does no input or output: packets, randomness and
 //! timers are the caller's.
