@@ -1,0 +1,14 @@
+use Rattle.octets.proofs.Appends.{laid_more, laid_done}
+use Rattle.change.proofs.Layouts.{laid_change}
+use Rattle.change.proofs.put_change.Goals as goal
+
+pub returns : goal.returns
+returns c =
+    laid_done c.append.ensures
+    (laid_more c.append-at-5.ensures
+    (laid_more c.append-at-4.ensures
+    (laid_more c.append-at-3.ensures
+    (laid_more c.append-at-2.ensures
+    (laid_more c.append-at.ensures
+    (laid_more c.put_header-at.ensures
+    (laid_change _ _ _ _ _ _ c.requires.0 c.requires.1 c.requires.2 c.requires.3 _ c.requires.4)))))))

@@ -1,0 +1,5 @@
+pub mod Forms
+pub mod Change
+pub mod Writing
+pub mod Inner
+pub mod Promises
