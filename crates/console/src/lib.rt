@@ -1,7 +1,7 @@
 // What the programs read, and what they put on the screen.
 #![tactic(auto)]
 
-ghost use Rattle.std.specs.Prelude.{◌≡◌, ◌*◌, ◌≤◌, length, IfSome, MatchResult};
+ghost use Rattle.std.specs.Prelude.{◌≡◌, ◌*◌, ◌≤◌, length, IfSome, MatchResult, ◌<◌, ◌^◌};
 ghost use Rattle.std.specs.Str.{IsUtf8};
 ghost use Rattle.octets.specs.Lists.{cells, Appended};
 ghost use Rattle.console.specs.Reads.{Leaves};
@@ -28,7 +28,9 @@ pub enum File {
 // ---- arguments
 
 // How many arguments the program has, its own name among them.
-pub fn arg_count<R: Env>(rt: &R) -> usize {
+pub fn arg_count<R: Env>(rt: &R) -> usize
+    ensures { result < 2 ^ 64 }
+{
     let mut none = [0u8; 0];
     for i in 0..usize::MAX {
         match rt.arg(i, &mut none) {
@@ -163,7 +165,9 @@ fn complain_error(cause: Error) {
 }
 
 // What was done in vain, a colon, and the cause.
-pub fn fail(what: &[u8], cause: Error) {
+pub fn fail(what: &[u8], cause: Error)
+    ensures { what.now ≡ what.now }
+{
     complain(what);
     complain(b": ");
     complain_error(cause);

@@ -1,5 +1,3 @@
-use Prim.Native.Nat.{◌-◌}
-use lib.ListN.{length}
 use Rattle.password.proofs.Walks.{counted_long, walks}
 use Rattle.password.proofs.units_of.Goals as goal
 

@@ -1,6 +1,6 @@
 use Prim.Native.Nat.{◌-◌}
 use lib.ListN.{length}
-use Rattle.password.proofs.Walks.{Counted, walks}
+use Rattle.password.proofs.Walks.{Counted}
 use Rattle.password.proofs.units_of.Given as goal
 
 abbrev pub invariant-loop-at : goal.invariant-loop-at

@@ -1,6 +1,5 @@
 use Rattle.roster.specs.Lines.{code_in}
 use Rattle.octets.proofs.Exits.{exits, gave}
-use borrow.Author.Rules.{rules}
 use Rattle.roster.proofs.code_in.Goals as goal
 
 pub returns-then-equal : goal.returns-then-equal

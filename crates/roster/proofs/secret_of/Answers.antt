@@ -1,5 +1,4 @@
 use Rattle.roster.proofs.Fields.{fields}
-use borrow.Author.Rules.{rules}
 use Rattle.roster.proofs.secret_of.Goals as goal
 
 pub returns-then-stands_at : goal.returns-then-stands_at

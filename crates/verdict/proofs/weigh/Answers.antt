@@ -1,7 +1,5 @@
 use Rattle.octets.proofs.Exits.{exits}
-use Rattle.verdict.proofs.Arithmetic.{weigh_wrong, weigh_right, known_so}
 use Rattle.verdict.specs.Inner.{weighed}
-use borrow.Author.Rules.{rules}
 use Rattle.verdict.proofs.weigh.Goals as goal
 
 pub returns-then-not-computed : goal.returns-then-not-computed
