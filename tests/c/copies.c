@@ -1,7 +1,7 @@
 /* Counts how often each call copies the long array of its state, the peer's request of 1,020 octets or the server's
  * of 282, alone, with more of the state, or but for a few octets. A call decodes the state, makes the state after it, and
  * encodes that: three copies. Where a state is passed by value through functions that choose by match, the back end makes up to four
- * more. A call that makes more ends this program with status 1. tests/c/run links it so that the archive's memcpy and memmove are
+ * more. A call that makes more than stands beside it ends this program with status 1. tests/c/run links it so that the archive's memcpy and memmove are
  * those below. */
 #include <stdio.h>
 #include <string.h>
@@ -9,15 +9,13 @@
 #include "zirgumtak.h"
 
 #define PEER_COPY 1000
-#define PEER_MOST 7
 #define SERVER_COPY 250
-#define SERVER_MOST 7
 
 void *__real_memcpy(void *to, const void *from, size_t n);
 void *__real_memmove(void *to, const void *from, size_t n);
 
 static size_t least;
-static unsigned most, copies, surprises;
+static unsigned copies, surprises;
 
 void *__wrap_memcpy(void *to, const void *from, size_t n)
 {
@@ -41,14 +39,13 @@ static uint8_t fresh[16];
 /* How long the packet on its way is. */
 static size_t length;
 
-static void counting(size_t copy, unsigned allowed)
+static void counting(size_t copy)
 {
     least = copy;
-    most = allowed;
     copies = 0;
 }
 
-static void done(const char *call, uint64_t answer, unsigned number)
+static void done(const char *call, uint64_t answer, unsigned number, unsigned most)
 {
     unsigned made = copies;
     printf("  %u  %s\n", made, call);
@@ -64,58 +61,58 @@ static void start(const uint8_t *hash, unsigned retries)
 {
     zt_peer_new(peer, sizeof peer, NAME, sizeof NAME, hash, 16);
     zt_server_new(server, sizeof server);
-    counting(SERVER_COPY, SERVER_MOST);
+    counting(SERVER_COPY);
     done("server, start", zt_server_start(server, sizeof server, 1, CHALLENGE, 16, NAME, sizeof NAME, retries,
-                                          request, sizeof request), ZT_WRITTEN);
+                                          request, sizeof request), ZT_WRITTEN, 1);
 }
 
-static void to_peer(const char *call, unsigned number)
+static void to_peer(const char *call, unsigned number, unsigned most)
 {
-    counting(PEER_COPY, PEER_MOST);
-    done(call, zt_peer_step(peer, sizeof peer, request, length, RANDOM, 16, reply, sizeof reply), number);
+    counting(PEER_COPY);
+    done(call, zt_peer_step(peer, sizeof peer, request, length, RANDOM, 16, reply, sizeof reply), number, most);
 }
 
-static void to_server(const char *call, unsigned number)
+static void to_server(const char *call, unsigned number, unsigned most)
 {
     fresh[0]++;
-    counting(SERVER_COPY, SERVER_MOST);
+    counting(SERVER_COPY);
     done(call, zt_server_packet(server, sizeof server, reply, length, TABLE, sizeof TABLE, fresh, 16,
-                                request, sizeof request), number);
+                                request, sizeof request), number, most);
 }
 
 static void right_password(void)
 {
     start(HASH, 0);
-    to_peer("peer, Challenge", ZT_WRITTEN);
-    to_server("server, right Response", ZT_WRITTEN);
-    to_peer("peer, Success Request", ZT_WRITTEN);
-    to_server("server, Success Response", ZT_AUTHENTICATED);
-    to_peer("peer, EAP Success", ZT_AUTHENTICATED);
+    to_peer("peer, Challenge", ZT_WRITTEN, 7);
+    to_server("server, right Response", ZT_WRITTEN, 7);
+    to_peer("peer, Success Request", ZT_WRITTEN, 6);
+    to_server("server, Success Response", ZT_AUTHENTICATED, 5);
+    to_peer("peer, EAP Success", ZT_AUTHENTICATED, 7);
     length = 3;
-    to_peer("peer, a packet of 3 octets", ZT_SHORT);
-    to_server("server, a packet of 3 octets", ZT_SHORT);
+    to_peer("peer, a packet of 3 octets", ZT_SHORT, 3);
+    to_server("server, a packet of 3 octets", ZT_SHORT, 1);
 }
 
 static void wrong_passwords(void)
 {
     uint8_t waiting[ZT_PEER_OCTETS];
     start(WRONG_HASH, 1);
-    to_peer("peer, Challenge", ZT_WRITTEN);
-    counting(SERVER_COPY, SERVER_MOST);
-    done("server, resend", zt_server_resend(server, sizeof server, request, sizeof request), ZT_WRITTEN);
-    to_peer("peer, the Challenge again", ZT_WRITTEN);
-    to_server("server, wrong Response, a retry left", ZT_WRITTEN);
-    to_peer("peer, Failure Request, R=1", ZT_NEEDS_CREDENTIALS);
+    to_peer("peer, Challenge", ZT_WRITTEN, 7);
+    counting(SERVER_COPY);
+    done("server, resend", zt_server_resend(server, sizeof server, request, sizeof request), ZT_WRITTEN, 1);
+    to_peer("peer, the Challenge again", ZT_WRITTEN, 7);
+    to_server("server, wrong Response, a retry left", ZT_WRITTEN, 7);
+    to_peer("peer, Failure Request, R=1", ZT_NEEDS_CREDENTIALS, 7);
     memcpy(waiting, peer, sizeof peer);
-    counting(PEER_COPY, PEER_MOST);
-    done("peer, give up", zt_peer_give_up(waiting, sizeof waiting), ZT_ENDED);
-    counting(PEER_COPY, PEER_MOST);
+    counting(PEER_COPY);
+    done("peer, give up", zt_peer_give_up(waiting, sizeof waiting), ZT_ENDED, 0);
+    counting(PEER_COPY);
     done("peer, supply", zt_peer_supply(peer, sizeof peer, NAME, sizeof NAME, WRONG_HASH, 16, RANDOM, 16,
-                                        reply, sizeof reply), ZT_WRITTEN);
-    to_server("server, wrong Response, no retry left", ZT_WRITTEN);
-    to_peer("peer, Failure Request, R=0", ZT_WRITTEN);
-    to_server("server, Failure Response", ZT_ENDED);
-    to_peer("peer, EAP Failure", ZT_ENDED);
+                                        reply, sizeof reply), ZT_WRITTEN, 3);
+    to_server("server, wrong Response, no retry left", ZT_WRITTEN, 7);
+    to_peer("peer, Failure Request, R=0", ZT_WRITTEN, 6);
+    to_server("server, Failure Response", ZT_ENDED, 5);
+    to_peer("peer, EAP Failure", ZT_ENDED, 7);
 }
 
 int main(void)

@@ -27,7 +27,7 @@ fn wide(x: u8) -> usize
 // j = j + S[i] + x; then S[i] and S[j] change places. Gives j.
 fn mix(s: &mut [u8; 256], i: usize, j: usize, x: u8) -> usize
     requires { (i < 256) × (j < 256) }
-    ensures { (◌≡◌ {A = Mixed} (record { s = s.exit.now; j = result }) (mixed i x (record { s = s.entry.now; j = j }))) × (result < 256) }
+    ensures { (◌≡◌ {A = Mixed} (record { s = s.new; j = result }) (mixed i x (record { s = s.old; j = j }))) × (result < 256) }
 {
     let a = s[i];
     let k = (j + wide(a) + wide(x)) % 256;
@@ -55,7 +55,7 @@ fn schedule(key: [u8; 16]) -> [u8; 256]
 // S[S[i] + S[j]].
 fn output_of(s: &[u8; 256], i: usize, j: usize) -> u8
     requires { (i < 256) × (j < 256) }
-    ensures { result ≡ output i (record { s = s.entry.now; j = j }) }
+    ensures { result ≡ output i (record { s = s.now; j = j }) }
 {
     s[(wide(s[i]) + wide(s[j])) % 256]
 }

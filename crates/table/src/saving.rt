@@ -15,15 +15,15 @@ pub(crate) enum Saved {
     Settled,
 }
 
-// ---- what stands at a path
+// ---- what stands at a path, of which the first 4,095 octets are looked at
 
 fn status(rt: &HostRuntime, path: &[u8]) -> Result<Metadata> {
-    fs::metadata(rt, console::path_of(path)?)
+    fs::metadata(rt, console::path_of(octets::part(path, 0, 4095))?)
 }
 
 // What is known of what stands at a path itself, and not of what a symbolic link there leads to.
 fn look(rt: &HostRuntime, path: &[u8]) -> Result<Metadata> {
-    fs::symlink_metadata(rt, console::path_of(path)?)
+    fs::symlink_metadata(rt, console::path_of(octets::part(path, 0, 4095))?)
 }
 
 fn is_link(rt: &HostRuntime, path: &[u8]) -> bool {
