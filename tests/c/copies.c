@@ -1,6 +1,6 @@
 /* Counts how often each call copies the long array of its state, the peer's request of 1,020 octets or the server's
  * of 282, alone, with more of the state, or but for a few octets. A call decodes the state, makes the state after it, and
- * encodes that: three copies. Where a state is passed by value through functions that choose by match, the back end makes up to four
+ * encodes that: three copies. At a server that asks again or ends the back end makes up to four
  * more. A call that makes more than stands beside it ends this program with status 1. tests/c/run links it so that the archive's memcpy and memmove are
  * those below. */
 #include <stdio.h>
@@ -83,13 +83,13 @@ static void to_server(const char *call, unsigned number, unsigned most)
 static void right_password(void)
 {
     start(HASH, 0);
-    to_peer("peer, Challenge", ZT_WRITTEN, 7);
+    to_peer("peer, Challenge", ZT_WRITTEN, 3);
     to_server("server, right Response", ZT_WRITTEN, 7);
-    to_peer("peer, Success Request", ZT_WRITTEN, 6);
-    to_server("server, Success Response", ZT_AUTHENTICATED, 5);
-    to_peer("peer, EAP Success", ZT_AUTHENTICATED, 7);
+    to_peer("peer, Success Request", ZT_WRITTEN, 3);
+    to_server("server, Success Response", ZT_AUTHENTICATED, 4);
+    to_peer("peer, EAP Success", ZT_AUTHENTICATED, 3);
     length = 3;
-    to_peer("peer, a packet of 3 octets", ZT_SHORT, 3);
+    to_peer("peer, a packet of 3 octets", ZT_SHORT, 2);
     to_server("server, a packet of 3 octets", ZT_SHORT, 1);
 }
 
@@ -97,12 +97,12 @@ static void wrong_passwords(void)
 {
     uint8_t waiting[ZT_PEER_OCTETS];
     start(WRONG_HASH, 1);
-    to_peer("peer, Challenge", ZT_WRITTEN, 7);
+    to_peer("peer, Challenge", ZT_WRITTEN, 3);
     counting(SERVER_COPY);
     done("server, resend", zt_server_resend(server, sizeof server, request, sizeof request), ZT_WRITTEN, 1);
-    to_peer("peer, the Challenge again", ZT_WRITTEN, 7);
+    to_peer("peer, the Challenge again", ZT_WRITTEN, 3);
     to_server("server, wrong Response, a retry left", ZT_WRITTEN, 7);
-    to_peer("peer, Failure Request, R=1", ZT_NEEDS_CREDENTIALS, 7);
+    to_peer("peer, Failure Request, R=1", ZT_NEEDS_CREDENTIALS, 3);
     memcpy(waiting, peer, sizeof peer);
     counting(PEER_COPY);
     done("peer, give up", zt_peer_give_up(waiting, sizeof waiting), ZT_ENDED, 0);
@@ -110,9 +110,9 @@ static void wrong_passwords(void)
     done("peer, supply", zt_peer_supply(peer, sizeof peer, NAME, sizeof NAME, WRONG_HASH, 16, RANDOM, 16,
                                         reply, sizeof reply), ZT_WRITTEN, 3);
     to_server("server, wrong Response, no retry left", ZT_WRITTEN, 7);
-    to_peer("peer, Failure Request, R=0", ZT_WRITTEN, 6);
-    to_server("server, Failure Response", ZT_ENDED, 5);
-    to_peer("peer, EAP Failure", ZT_ENDED, 7);
+    to_peer("peer, Failure Request, R=0", ZT_WRITTEN, 3);
+    to_server("server, Failure Response", ZT_ENDED, 4);
+    to_peer("peer, EAP Failure", ZT_ENDED, 3);
 }
 
 int main(void)

@@ -1,26 +1,27 @@
 -- `told_found` tells the answers of `find` apart.
-use mathlib.Core.Path.{◌≡◌, refl, sym, ap, ◌∙◌}
-use lib.Dec.{eqb}
-use Rattle.octets.specs.Choice.{pick}
+use mathlib.Core.Path.{◌≡◌, ap}
+use native.Mathlib.Omega.{arith}
+use Rattle.std.specs.Prelude.{Option, Some, None, Result, Ok, Err}
 use Rattle.answer.specs.Outcome.{Told}
-use Rattle.accounts.specs.Accounts.{Lookup, absent, account, told_found}
+use Rattle.answer.specs.Answer.{refusal_of}
+use Rattle.answer.specs.declared.Done.{Done}
+use Rattle.answer.specs.declared.Refusal.{Refusal}
+use Rattle.answer.proofs.Apart.{numbers_apart, refusals_listed}
+use Rattle.accounts.specs.Accounts.{Lookup, found_in}
 use Rattle.accounts.specs.Promises.{FoundApart}
-use Rattle.accounts.specs.declared.Found.{Found}
-use Rattle.accounts.specs.declared.Found.TheVariants as found
+use Rattle.accounts.specs.declared.Account.{Account}
 
-given : Lookup → Found
-given absent = found.Absent
-given (account code hash) = found.Account code hash
+refusals_apart : (x y : Refusal) → refusal_of x ≡ refusal_of y → x ≡ y
+refusals_apart x y e = let f : ◌≡◌ {A = Result Done Refusal} (Err x) (Err y) = numbers_apart (Err x) (Err y) e in cc
 
-answer : Told Lookup → Found
-answer x = pick (eqb x.number 21) found.Malformed (pick (eqb x.number 23) found.BadUser (given x.value))
-
-back : (f : Found) → answer (told_found f) ≡ f
-unfolding answer given pick
-back found.Malformed = refl
-back found.BadUser = refl
-back found.Absent = refl
-back (found.Account code hash) = refl
+lookups_apart : (x y : Option Account) → found_in x ≡ found_in y → x ≡ y
+lookups_apart None None e = cc
+lookups_apart None (Some b) e = absurd (cc)
+lookups_apart (Some a) None e = absurd (cc)
+lookups_apart (Some a) (Some b) e = let p : a.code ≡ b.code = cc in let q : a.hash ≡ b.hash = cc in (λ j. Some (record { code = p j; hash = q j }))
 
 pub found_apart : FoundApart
-found_apart a b e = sym (back a) ∙ ap answer e ∙ back b
+found_apart (Ok x) (Ok y) e = ap Ok (lookups_apart x y (ap (λ (r : Told Lookup). r.value) e))
+found_apart (Ok x) (Err why) e = let n = ap (λ (r : Told Lookup). r.number) e in absurd (omega (arith, refusals_listed why))
+found_apart (Err why) (Ok y) e = let n = ap (λ (r : Told Lookup). r.number) e in absurd (omega (arith, refusals_listed why))
+found_apart (Err x) (Err y) e = ap Err (refusals_apart x y (ap (λ (r : Told Lookup). r.number) e))

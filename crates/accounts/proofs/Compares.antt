@@ -196,6 +196,18 @@ part_past (suc m) zero (x ∷ xs) = let e : 0 - suc m ≡ 0 = omega arith in rw 
 part_past (suc m) (suc n) (x ∷ xs) = let e : suc n - suc m ≡ n - m = omega arith in rw e (part_past m n xs)
 
 -- ---- a name, and what stands at its place
+abbrev zeros : List ℕ
+zeros = replicate 264 0
+
+pub length_sought : (user own : List ℕ) → own ≡ sought user → length own ≡ 264
+unfolding sought
+length_sought user own e =
+    let l : length zeros ≡ 264 = length-replicate {A = ℕ} 264 0 in
+    let f : 8 + length (take 256 user) ≤ length zeros = omega (arith, length-take 256 user) in
+    ap length (e ∙ put_fits zeros (take 256 user) 8 f)
+    ∙ length-append (take 8 zeros ++ take 256 user) (drop (8 + length (take 256 user)) zeros)
+    ∙ omega (arith, length-append (take 8 zeros) (take 256 user), length-take 8 zeros, length-drop (8 + length (take 256 user)) zeros)
+
 module _ (item own : List ℕ) where
   abbrev name : List ℕ
   name = drop 22 item
@@ -204,65 +216,53 @@ module _ (item own : List ℕ) where
   there = part own 8 (length item - 22)
 
   -- the octets up to `end` are to come; d is 0 exactly where those after it are the same
-  pub record Ended (mask : List ℕ) (d end : ℕ) : Type 0 where
+  pub record Ended (d end : ℕ) : Type 0 where
     pub least : 22 ≤ length item
     pub room : length item ≤ 278
-    pub long : length own ≡ 264
-    pub mask_is : mask ≡ name_mask
     pub most : end + 22 ≤ length item
     pub is : same name there ≡ pick (eqb d 0) (same (take end name) (take end there)) false
 
-  pub ended_first : (mask : List ℕ) (n : ℕ) → 22 ≤ length item → length item ≤ 278 → length own ≡ 264 → mask ≡ name_mask → n ≡ length item - 22 → Ended mask 0 n
-  ended_first mask n h k l m e =
+  pub ended_first : (n : ℕ) → 22 ≤ length item → length item ≤ 278 → n ≡ length item - 22 → Ended 0 n
+  ended_first n h k e =
       let a : length name ≤ n = omega (arith, length-drop 22 item) in
       let b : length there ≤ n = omega (arith, length-take (length item - 22) (drop 8 own)) in
       record {
         least = h;
         room = k;
-        long = l;
-        mask_is = m;
         most = omega arith;
         is = sym (λ j. same (take_all n name a j) (take_all n there b j)) ∙ sym (pick_true (eqb 0 0) _ _ refl);
       }
 
-  module _ (mask : List ℕ) (d end : ℕ) (p : Ended mask d end) where
+  module _ (d end : ℕ) (p : Ended d end) where
     front : (m : ℕ) → m ≤ end → take m there ≡ take m (drop 8 own)
     front m h = take-take m (length item - 22) (drop 8 own) (omega (arith, p.most))
 
-    long_name : length (take end name) ≡ length (take end there)
-    long_name =
+    long_name : length own ≡ 264 → length (take end name) ≡ length (take end there)
+    long_name l =
         let a : end ≤ length name = omega (arith, length-drop 22 item, p.most) in
-        let b : end ≤ length there = omega (arith, length-take (length item - 22) (drop 8 own), length-drop 8 own, p.most, p.long, p.room) in
+        let b : end ≤ length there = omega (arith, length-take (length item - 22) (drop 8 own), length-drop 8 own, p.most, p.room) in
         length-take-le end name a ∙ sym (length-take-le end there b)
 
-    pub ended_more : (r n : ℕ) → 0 < end → eqb r 0 ≡ same (drop (end - 8) (take end (drop 22 item))) (drop (end - 8) (take end (drop 8 own))) → n ≡ end - 8 → Ended mask (bit_or d r) n
-    ended_more r n h e f =
+    pub ended_more : (user : List ℕ) (r : ℕ) → own ≡ sought user → eqb r 0 ≡ same (drop (end - 8) (take end (drop 22 item))) (drop (end - 8) (take end (drop 8 own))) → Ended (bit_or d r) (end - 8)
+    ended_more user r o e =
         let l : end - 8 ≤ end = omega arith in
         let k : end ≤ end = omega arith in
         let tails : same (drop (end - 8) (take end name)) (drop (end - 8) (take end there)) ≡ eqb r 0 = ap (λ (q : List ℕ). same (drop (end - 8) (take end name)) (drop (end - 8) q)) (front end k) ∙ sym e in
         let heads : same (take (end - 8) (take end name)) (take (end - 8) (take end there)) ≡ same (take (end - 8) name) (take (end - 8) there)
         = (λ j. same (take-take (end - 8) end name l j) (take-take (end - 8) end there l j)) in
-        rw f record {
+        record {
           least = p.least;
           room = p.room;
-          long = p.long;
-          mask_is = p.mask_is;
           most = omega (arith, p.most);
-          is = p.is ∙ ap (λ (b : Bool). pick (eqb d 0) b false) (same_parts (end - 8) (take end name) (take end there) long_name ∙ (λ j. pick (tails j) (heads j) false)) ∙ sym (or_none d r _);
+          is = p.is ∙ ap (λ (b : Bool). pick (eqb d 0) b false) (same_parts (end - 8) (take end name) (take end there) (long_name (length_sought user own o)) ∙ (λ j. pick (tails j) (heads j) false)) ∙ sym (or_none d r _);
         }
 
     pub ended_done : end ≤ 0 → eqb d 0 ≡ same name there
     unfolding same
     ended_done h = let z : end ≡ 0 = omega arith in sym (p.is ∙ rw z (whole (eqb d 0)))
 
-    pub ended_end : (end + 22 ≤ length item) × (end + 8 ≤ length own)
-    ended_end = (p.most, omega (arith, p.most, p.room, p.long))
-
     pub ended_few : end ≤ 256
     ended_few = omega (arith, p.most, p.room)
-
-abbrev zeros : List ℕ
-zeros = replicate 264 0
 
 -- what stands at the place of a name as long as the user's
 there_user : (user : List ℕ) (n : ℕ) → n ≡ length user → n ≤ 256 → part (sought user) 8 n ≡ user
@@ -276,15 +276,6 @@ there_user user n e h =
     ∙ ap (λ (q : List ℕ). part q 8 n) (put_fits zeros user 8 f)
     ∙ ap (take n) (ap (drop 8) (append_assoc (take 8 zeros) user (drop (8 + length user) zeros)) ∙ drop_at (take 8 zeros) _ 8 z)
     ∙ take_at user _ n (sym e)
-
-pub length_sought : (user own : List ℕ) → own ≡ sought user → length own ≡ 264
-unfolding sought
-length_sought user own e =
-    let l : length zeros ≡ 264 = length-replicate {A = ℕ} 264 0 in
-    let f : 8 + length (take 256 user) ≤ length zeros = omega (arith, length-take 256 user) in
-    ap length (e ∙ put_fits zeros (take 256 user) 8 f)
-    ∙ length-append (take 8 zeros ++ take 256 user) (drop (8 + length (take 256 user)) zeros)
-    ∙ omega (arith, length-append (take 8 zeros) (take 256 user), length-take 8 zeros, length-drop (8 + length (take 256 user)) zeros)
 
 pub name_same : (user own item : List ℕ) (d : ℕ) → 22 ≤ length item → length item ≤ 278 → own ≡ sought user
     → eqb d 0 ≡ same (drop 22 item) (part own 8 (length item - 22)) → eqb (bit_or d (bit_xor (length item - 22) (length user))) 0 ≡ same (drop 22 item) user
@@ -321,4 +312,4 @@ end_apart item own end from to last r f t l e =
         ∙ ap (λ (m : ℕ). take (end - (end - 8)) (drop m s)) b
         ∙ sym (part_past (end - 8) end (drop at s) ∙ ap (take (end - (end - 8))) (drop-drop (end - 8) at s))
 
-pub ruleset masks = (exits, masked_none, mask_bits, mask_first, mask_more, mask_done, ended_first, ended_more, ended_done, ended_end, ended_few, length_sought, name_same, end_apart)
+pub ruleset masks = (exits, masked_none, mask_bits, mask_first, mask_more, mask_done, ended_first, ended_more, ended_done, ended_few, length_sought, name_same, end_apart)

@@ -17,7 +17,10 @@ use Rattle.answer.specs.Outcome.{Told, gives, refuses}
 use Rattle.answer.specs.Sizes.{max_name}
 use Rattle.accounts.specs.Records.{records}
 use Rattle.accounts.specs.Accounts.{code_of, hash_of, record_name, well_formed, is_account_of, Placed, placed, first_from, account_of, record_of, Lookup, absent, account, lookup_of, looked, looked_in, looked_of, find_told}
-use Rattle.accounts.specs.declared.Looked.{Looked}
+use Rattle.accounts.specs.declared.Account.{Account}
+use Rattle.answer.specs.declared.Refusal.{Refusal}
+use Rattle.answer.specs.declared.Refusal.TheVariants.{BadTable}
+use Rattle.std.specs.Prelude.{Ok, Err}
 use Rattle.accounts.specs.Table.{All, none, more, IsAccount, Names, NoneNames, FirstNames, Tells, tells_malformed, tells_long, tells_absent, tells_account}
 use Rattle.accounts.specs.Promises.{LookupsExact}
 use Rattle.accounts.proofs.Tables.{flatten_append, records_join, table_so, so_table, no_table, table_not}
@@ -191,24 +194,28 @@ module _ (t user : List ℕ) (w : well_formed t ≡ true) (i : is_account_of use
       ∙ take-append-le 16 (drop 6 (record_of t user)) (flatten names.after) sixteen
 
 -- ---- what `look` gives
-module _ (t user : List ℕ) (l : Looked) (e : l ≡ looked_of t user) where
-  looked_good : (m : Lookup) → (looked_in m).formed ≡ true
-  looked_good absent = refl
-  looked_good (account code hash) = refl
-
-  pub looked_formed : l.formed ≡ well_formed t
+module _ (t user : List ℕ) where
+  pub looked_bad : well_formed t ≡ false → looked_of t user ≡ Err BadTable
   unfolding looked_of
-  looked_formed =
-      tested (well_formed t)
-      (λ w. ap (λ (x : Looked). x.formed) (e ∙ pick_true _ _ _ w) ∙ looked_good (lookup_of user (account_of t user)) ∙ sym w)
-      (λ w. ap (λ (x : Looked). x.formed) (e ∙ pick_false _ _ _ w) ∙ sym w)
+  looked_bad w = pick_false _ _ _ w
+
+  pub looked_good : well_formed t ≡ true → looked_of t user ≡ Ok (looked_in (lookup_of user (account_of t user)))
+  unfolding looked_of
+  looked_good w = pick_true _ _ _ w
 
   -- the user has an account
-  pub looked_there : well_formed t ≡ true → is_account_of user (record_of t user) ≡ true → l ≡ looked true (code_of (record_of t user)) ((account_of t user).place + 6)
-  unfolding looked_of
-  looked_there w i = e ∙ pick_true _ _ _ w ∙ ap looked_in (lookup_some user (account_of t user) i)
+  pub looked_there : well_formed t ≡ true → is_account_of user (record_of t user) ≡ true → looked_of t user ≡ Ok (looked (code_of (record_of t user)) ((account_of t user).place + 6))
+  looked_there w i = looked_good w ∙ ap (λ (m : Lookup). Ok (looked_in m)) (lookup_some user (account_of t user) i)
 
   -- or has none
-  pub looked_none : well_formed t ≡ true → is_account_of user (record_of t user) ≡ false → l ≡ looked true 0 0
-  unfolding looked_of
-  looked_none w i = e ∙ pick_true _ _ _ w ∙ ap looked_in (lookup_none user (account_of t user) i)
+  pub looked_none : well_formed t ≡ true → is_account_of user (record_of t user) ≡ false → looked_of t user ≡ Ok (looked 0 0)
+  looked_none w i = looked_good w ∙ ap (λ (m : Lookup). Ok (looked_in m)) (lookup_none user (account_of t user) i)
+
+  pub looked_formed : (a : Account) → Ok a ≡ looked_of t user → well_formed t ≡ true
+  looked_formed a e = tested (well_formed t) (λ w. w) (λ w. absurd (cc (e, looked_bad w)))
+
+  pub looked_refused : (why : Refusal) → Err why ≡ looked_of t user → well_formed t ≡ false
+  looked_refused why e = tested (well_formed t) (λ w. absurd (cc (e, looked_good w))) (λ w. w)
+
+  pub looked_why : (why : Refusal) → Err why ≡ looked_of t user → why ≡ BadTable
+  looked_why why e = tested (well_formed t) (λ w. absurd (cc (e, looked_good w))) (λ w. cc (e, looked_bad w))

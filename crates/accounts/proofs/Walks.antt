@@ -2,32 +2,29 @@
 use Prim.Native.Nat.{ℕ, ◌+◌, ◌-◌, ◌<◌, ◌≤◌}
 use mathlib.Core.Path.{◌≡◌, refl, sym, ap, ◌∙◌}
 use mathlib.Core.List.{List, [], ◌∷◌}
-use mathlib.Core.Bool.{Bool, true, false, not, ◌&&◌}
+use mathlib.Core.Bool.{Bool, true, false, not}
 use native.Mathlib.Omega.{arith}
 use lib.ListN.{length, take, drop, length-drop}
 use lib.Dec.{eqb}
-use borrow.Author.Tests.{lt-ltb, le-ltb, eq-eqb, ne_eqb, eqb-true, eqb-false, not-false}
+use borrow.Author.Rules.{rules}
+use borrow.Author.Tests.{lt-ltb, le-ltb, eq-eqb, ne_eqb, eqb-true}
 use Rattle.octets.specs.Choice.{pick}
 use Rattle.octets.specs.Octets.{number_at, same}
-use Rattle.octets.proofs.Exits.{exits, pick_true, pick_false, passed, tested, arms, clash, and_both, and_first, and_second, gave_true, gave_false}
+use Rattle.octets.proofs.Exits.{pick_true, pick_false, tested, arms, and_both}
 use Rattle.octets.proofs.Parts.{rest_all}
-use Rattle.answer.specs.Outcome.{Told, gives, refuses}
+use Rattle.answer.specs.Outcome.{gives, refuses}
 use Rattle.answer.specs.Sizes.{max_name}
-use Rattle.accounts.specs.Inner.{head, told_looked}
-use Rattle.accounts.specs.Records.{kind_of, framed, records, every, sound}
-use Rattle.accounts.specs.Accounts.{code_of, record_good, well_formed, is_account_of, placed, first_from, account_of, record_of, Lookup, absent, account, lookup_of, looked, looked_in, looked_of, find_told}
-use Rattle.accounts.specs.declared.Known.{Known}
-use Rattle.accounts.specs.declared.Looked.{Looked}
-use Rattle.accounts.proofs.Records.{next, stops, ends}
+use Rattle.accounts.specs.Inner.{IsFirst, IsNone, kept_from, walked, kept, lookup_in}
+use Rattle.accounts.specs.Records.{kind_of, records, every, sound}
+use Rattle.accounts.specs.Accounts.{code_of, record_good, well_formed, is_account_of, placed, first_from, account_of, record_of, Lookup, absent, lookup_of, looked, looked_in, looked_of, check_number, find_told}
+use Rattle.accounts.specs.declared.Account.{Account}
+use Rattle.answer.specs.Answer.{refusal_of}
+use Rattle.answer.specs.declared.Refusal.{Refusal}
+use Rattle.answer.specs.declared.Refusal.TheVariants.{BadTable}
+use Rattle.std.specs.Prelude.{Result, Ok, Err}
+use Rattle.accounts.proofs.Records.{next, none_good, good_all, ends}
 use Rattle.accounts.proofs.Tables.{good_so}
-use Rattle.accounts.proofs.Lookups.{lookup_some, lookup_none, looked_formed, looked_there, looked_none}
-
--- whether there is a record, and it is good
-abbrev item_good : List ℕ → Bool
-item_good q = pick (eqb (length q) 0) false (record_good q)
-
-pub good_formed : (q : List ℕ) → item_good q ≡ true → record_good q ≡ true
-good_formed q g = (passed _ _ g).1
+use Rattle.accounts.proofs.Lookups.{lookup_some, lookup_none, looked_formed, looked_bad, looked_good, looked_refused, looked_why, looked_there, looked_none, find_malformed, find_long, find_gives}
 
 -- a turn's part at the good record q: whether it is an account of the user
 module _ (q : List ℕ) (kind : ℕ) (k : kind ≡ kind_of q) where
@@ -37,216 +34,164 @@ module _ (q : List ℕ) (kind : ℕ) (k : kind ≡ kind_of q) where
   pub named_few : record_good q ≡ true → kind ≡ 1 → length q ≤ 278
   named_few g h = (good_so q g (sym k ∙ h)).most
 
-  module _ (user : List ℕ) (known kept : Known) where
-    pub keep_account : (r : Known) → kind ≡ 1 → r ≡ pick (not (same (drop 22 q) user)) known kept → r ≡ pick (not (is_account_of user q)) known kept
+  module _ (user : List ℕ) (known : Account) (at : ℕ) where
+    pub keep_account : (here : Bool) (code hash : ℕ) (r : Account) → kind ≡ 1 → here ≡ same (drop 22 q) user → code ≡ code_of q → hash ≡ at + 6 → r ≡ pick (not here) known (pick (eqb known.hash 0) (record { code = code; hash = hash }) known)
+        → r ≡ kept user known at q
     unfolding is_account_of
-    keep_account r h e = e ∙ ap (λ (b : Bool). pick (not b) known kept) (sym (pick_true _ _ _ (eq-eqb _ _ (sym k ∙ h))))
+    keep_account here code hash r h e c z f = f ∙ rw (e, c, z, pick_true (eqb (kind_of q) 1) (same (drop 22 q) user) false (eq-eqb _ _ (sym k ∙ h))) refl
 
-    pub keep_other : (kind ≡ 1 → ⊥) → known ≡ pick (not (is_account_of user q)) known kept
+    pub keep_other : (kind ≡ 1 → ⊥) → known ≡ kept user known at q
     unfolding is_account_of
     keep_other h = sym (pick_true _ _ _ (ap not (pick_false _ _ _ (ne_eqb _ _ (λ e. h (k ∙ e))))))
 
--- ---- what a walk tells, with an account known of the records before
-abbrev known : Known → Lookup → Lookup
-known k m = pick (eqb k.hash 0) m (account k.code k.hash)
+pub ruleset keeps = (rules, named_long, named_few, keep_account, keep_other)
 
-module _ (t user : List ℕ) where
-  abbrev told : Told Lookup
-  told = pick (well_formed t) (gives (lookup_of user (account_of t user))) (refuses 21 absent)
+-- ---- a walk, whatever it keeps of the records
+module _ {K : Type 0} (keep : K → ℕ → List ℕ → K) (t : List ℕ) (start : K) where
+  -- with k kept of the records before rs, the first of which stands at `at`
+  unfoldable pub sees : K → ℕ → List (List ℕ) → Result K Refusal
+  sees k at rs = pick (good_all rs) (Ok (kept_from keep k at rs)) (Err BadTable)
 
-  -- of the records rs from `at` on
-  unfoldable pub sees : Known → ℕ → List (List ℕ) → Told Lookup
-  sees k at rs = pick (every (λ r. framed r && record_good r) rs) (gives (known k (lookup_of user (first_from at user rs)))) (refuses 21 absent)
+  -- the loop: all but l is behind
+  pub record Walking (k : K) (l : List ℕ) : Type 0 where
+    pub size : length t ≤ 65536
+    pub most : length l ≤ length t
+    pub is : walked keep start t ≡ sees k (length t - length l) (records l)
 
-  sees_bad : (k : Known) (at : ℕ) (q : List ℕ) (rs : List (List ℕ)) → (framed q && record_good q) ≡ false → sees k at (q ∷ rs) ≡ refuses 21 absent
-  unfolding sees every
-  sees_bad k at q rs f = pick_false _ _ _ (pick_false _ _ _ f)
+  pub walk_long : 65536 < length t → Err BadTable ≡ walked keep start t
+  unfolding well_formed walked
+  walk_long h = sym (pick_false _ _ _ (pick_true _ _ _ (lt-ltb _ _ h)))
 
-  sees_none : (k : Known) (at : ℕ) → sees k at [] ≡ gives (known k absent)
-  unfolding sees every first_from lookup_of is_account_of number_at pick
-  sees_none k at = refl
+  pub walk_none : length t ≤ 65536 → Walking start t
+  unfolding well_formed sound walked sees
+  walk_none h =
+      let e : length t - length t ≡ 0 = omega arith in
+      record { size = h; most = omega arith; is = rw e (ap (λ (b : Bool). pick b (Ok (kept_from keep start 0 (records t))) (Err BadTable)) (pick_false _ false (sound record_good t) (le-ltb _ _ h))) }
 
-  -- a turn at the record q
-  module _ (k : Known) (at : ℕ) (q : List ℕ) (rs : List (List ℕ)) where
-    abbrev kept : Known
-    kept = pick (not (is_account_of user q)) k (pick (eqb k.hash 0) (record { code = code_of q; hash = at + 6 }) k)
+  module _ (k : K) (l : List ℕ) (w : Walking k l) where
+    pub walk_bad : 0 < length l → IsNone l → Err BadTable ≡ walked keep start t
+    unfolding sees
+    walk_bad h z = sym (w.is ∙ pick_false _ _ _ (none_good l h z))
 
-    known_more : known k (lookup_of user (first_from at user (q ∷ rs))) ≡ known kept (lookup_of user (first_from (at + length q) user rs))
-    unfolding first_from lookup_of pick
-    known_more = go (is_account_of user q) refl (eqb k.hash 0) refl
-      where
-        m : Lookup
-        m = lookup_of user (first_from (at + length q) user rs)
+    pub walk_more : (q : List ℕ) → IsFirst l q → (m : K) → m ≡ keep k (length t - length l) q → Walking m (take (length l - length q) (drop (length q) l))
+    unfolding sees every kept_from
+    walk_more q f m e =
+        let p = next l q f in
+        let a : length t - length (drop (length q) l) ≡ length t - length l + length q = omega (arith, w.most, length-drop (length q) l) in
+        let g : good_all (q ∷ records (drop (length q) l)) ≡ good_all (records (drop (length q) l)) = pick_true _ _ _ (and_both _ _ p.framed f.good) in
+        rw (rest_all l (length q)) record {
+          size = w.size;
+          most = omega (arith, w.most, length-drop (length q) l);
+          is = w.is ∙ rw (p.is, g, e, a);
+        }
 
-        go : (a : Bool) → is_account_of user q ≡ a → (b : Bool) → eqb k.hash 0 ≡ b
-            → pick b (lookup_of user (pick a (placed at q) (first_from (at + length q) user rs))) (account k.code k.hash)
-            ≡ known (pick (not a) k (pick b (record { code = code_of q; hash = at + 6 }) k)) m
-        go true e true f = pick_true _ _ _ e ∙ sym (pick_false _ m _ (ne_eqb (at + 6) 0 (λ z. omega arith)))
-        go true e false f = sym (pick_false _ _ _ f)
-        go false e true f = sym (pick_true _ _ _ f)
-        go false e false f = sym (pick_false _ _ _ f)
+    pub walk_done : length l ≤ 0 → Ok k ≡ walked keep start t
+    unfolding sees every kept_from pick
+    walk_done h = sym (w.is ∙ ap (sees k (length t - length l)) (ends l (omega arith)))
 
-    sees_more : framed q ≡ true → record_good q ≡ true → sees k at (q ∷ rs) ≡ sees kept (at + length q) rs
-    unfolding sees every
-    sees_more f g = (λ j. pick (pick_true _ (every (λ r. framed r && record_good r) rs) false (and_both _ _ f g) j) (gives (known_more j)) (refuses 21 absent))
+pub walk_fits : (l q : List ℕ) → IsFirst l q → length q ≤ length l
+walk_fits l q f = (next l q f).fits
 
--- ---- the loop: all but l is behind
-pub record Walking (t user : List ℕ) (k : Known) (l : List ℕ) : Type 0 where
-  pub most : length l ≤ length t
-  pub none : k.hash ≡ 0 → k.code ≡ 0
-  pub is : told t user ≡ sees t user k (length t - length l) (records l)
+pub walk_less : (l q : List ℕ) → IsFirst l q → length (take (length l - length q) (drop (length q) l)) < length l
+walk_less l q f = let p = next l q f in rw (rest_all l (length q)) (omega (arith, length-drop (length q) l))
 
--- what is told, as values
-unformed : (t user : List ℕ) → refuses 21 absent ≡ told t user → looked false 0 0 ≡ looked_of t user
-unfolding looked_of
-unformed t user e =
-    tested (well_formed t)
-    (λ w. let z : 21 ≡ 0 = ap (λ (x : Told Lookup). x.number) (e ∙ pick_true _ _ _ w) in absurd (omega arith))
-    (λ w. sym (pick_false _ _ _ w))
-
-formed : (t user : List ℕ) (m : Lookup) → gives m ≡ told t user → looked_in m ≡ looked_of t user
-unfolding looked_of
-formed t user m e =
-    tested (well_formed t)
-    (λ w. ap (λ (x : Told Lookup). looked_in x.value) (e ∙ pick_true _ _ _ w) ∙ sym (pick_true _ _ _ w))
-    (λ w. let z : 0 ≡ 21 = ap (λ (x : Told Lookup). x.number) (e ∙ pick_false _ _ _ w) in absurd (omega arith))
-
-pub walk_long : (t user : List ℕ) → 65536 < length t → looked false 0 0 ≡ looked_of t user
-unfolding well_formed
-walk_long t user h = unformed t user (sym (pick_false _ _ _ (pick_true _ _ _ (lt-ltb _ _ h))))
-
-pub walk_none : (t user : List ℕ) → length t ≤ 65536 → Walking t user (record { code = 0; hash = 0 }) t
-unfolding well_formed sound account_of sees pick
-walk_none t user h =
-    let e : length t - length t ≡ 0 = omega arith in
-    record { most = omega arith; none = λ _. refl; is = rw e (ap (λ (b : Bool). pick b (gives (lookup_of user (account_of t user))) (refuses 21 absent)) (pick_false _ false (sound record_good t) (le-ltb _ _ h))) }
-
--- a good record, and what is left after it
-module _ (l q : List ℕ) (s : q ≡ head l) (g : item_good q ≡ true) where
-  there : length q ≡ 0 → ⊥
-  there = eqb-false _ _ (passed _ _ g).0
-
-  pub walk_fits : length q ≤ length l
-  walk_fits = (next l q s there).fits
-
-  pub walk_less : length (take (length l - length q) (drop (length q) l)) < length l
-  walk_less = let z : length q ≡ 0 → ⊥ = there in rw (rest_all l (length q)) (omega (arith, walk_fits, length-drop (length q) l))
-
--- a turn at the record q, or at none
-module _ (t user : List ℕ) (k : Known) (l q : List ℕ) (w : Walking t user k l) (h : 0 < length l) (s : q ≡ head l) where
-  pub walk_bad : item_good q ≡ false → looked false 0 0 ≡ looked_of t user
-  walk_bad g = unformed t user (tested (eqb (length q) 0) none off)
-    where
-      none : eqb (length q) 0 ≡ true → refuses 21 absent ≡ told t user
-      none z = let p = stops l q s h (eqb-true _ _ z) in sym (w.is ∙ ap (sees t user k _) p.is ∙ sees_bad t user k _ l [] (and_first _ _ p.framed))
-
-      off : eqb (length q) 0 ≡ false → refuses 21 absent ≡ told t user
-      off z =
-          let p = next l q s (eqb-false _ _ z) in
-          sym (w.is ∙ ap (sees t user k _) p.is ∙ sees_bad t user k _ q _ (and_second _ _ p.framed (sym (pick_false _ _ _ z) ∙ g)))
-
-  pub walk_more : item_good q ≡ true → (m : Known) → m ≡ kept t user k (length t - length l) q (records (drop (length q) l)) → Walking t user m (take (length l - length q) (drop (length q) l))
-  walk_more g m e =
-      let p = next l q s (there l q s g) in
-      let d = length-drop (length q) l in
-      let a : length t - length (drop (length q) l) ≡ length t - length l + length q = omega (arith, w.most) in
-      rw (rest_all l (length q)) record {
-        most = omega (arith, w.most);
-        none = rw e (arms (λ (x : Known). x.hash ≡ 0 → x.code ≡ 0) _ w.none (arms (λ (x : Known). x.hash ≡ 0 → x.code ≡ 0) _ (λ z. absurd (omega arith)) w.none));
-        is = w.is ∙ ap (sees t user k _) p.is ∙ sees_more t user k _ q _ p.framed (good_formed q g) ∙ rw (e, a);
-      }
-
-pub walk_done : (t user : List ℕ) (k : Known) (l : List ℕ) → Walking t user k l → length l ≤ 0 → looked true k.code k.hash ≡ looked_of t user
-walk_done t user k l w h = values ∙ formed t user _ (sym (w.is ∙ ap (sees t user k _) (ends l (omega arith)) ∙ sees_none t user k _))
-  where
-    values : looked true k.code k.hash ≡ looked_in (known k absent)
-    values =
-        tested (eqb k.hash 0)
-        (λ z. let n : k.hash ≡ 0 = eqb-true _ _ z in (λ j. looked true (w.none n j) (n j)) ∙ sym (ap looked_in (pick_true _ _ _ z)))
-        (λ z. sym (ap looked_in (pick_false _ _ _ z)))
-
--- what a walk told, as an answer
-pub found_bad : (b : Bool) (code hash : ℕ) → not b ≡ true → refuses 21 absent ≡ told_looked b code hash
-found_bad true code hash e = clash refl e
-found_bad false code hash e = refl
-
-pub found_none : (b : Bool) (code hash : ℕ) → not b ≡ false → hash ≡ 0 → gives absent ≡ told_looked b code hash
-found_none true code hash e z = sym (ap gives (pick_true _ _ _ (eq-eqb _ _ z)))
-found_none false code hash e z = clash e refl
-
-pub found_one : (b : Bool) (code hash : ℕ) → not b ≡ false → (hash ≡ 0 → ⊥) → gives (account code hash) ≡ told_looked b code hash
-found_one true code hash e z = sym (ap gives (pick_false _ _ _ (ne_eqb _ _ z)))
-found_one false code hash e z = clash e refl
-
-pub walk_found : (t user : List ℕ) (l : Looked) (x : Told Lookup) → l ≡ looked_of t user → x ≡ told_looked l.formed l.code l.hash → x ≡ told t user
-walk_found t user l x e f = f ∙ tested (well_formed t) yes no
-  where
-    no : well_formed t ≡ false → told_looked l.formed l.code l.hash ≡ told t user
-    no w = ap (λ (b : Bool). told_looked b l.code l.hash) (looked_formed t user l e ∙ w) ∙ sym (pick_false _ _ _ w)
-
-    yes : well_formed t ≡ true → told_looked l.formed l.code l.hash ≡ told t user
-    yes w =
-        tested (is_account_of user (record_of t user))
-        (λ i. ap (λ (y : Looked). told_looked y.formed y.code y.hash) (looked_there t user l e w i) ∙ ap gives (pick_false _ _ _ (ne_eqb ((account_of t user).place + 6) 0 (λ z. omega arith))) ∙ sym (pick_true _ _ _ w ∙ ap gives (lookup_some user (account_of t user) i)))
-        (λ i. ap (λ (y : Looked). told_looked y.formed y.code y.hash) (looked_none t user l e w i) ∙ ap gives (pick_true _ _ _ refl) ∙ sym (pick_true _ _ _ w ∙ ap gives (lookup_none user (account_of t user) i)))
+pub ruleset walks = (rules, walk_long, walk_none, walk_bad, walk_fits, walk_less, walk_more, walk_done)
 
 -- ---- a walk that looks for nobody
-pub record Forming (t l : List ℕ) : Type 0 where
-  pub is : well_formed t ≡ every (λ r. framed r && record_good r) (records l)
+module _ {K : Type 0} (keep : K → ℕ → List ℕ → K) (t : List ℕ) (start : K) where
+  walked_formed : (x : K) → Ok x ≡ walked keep start t → well_formed t ≡ true
+  unfolding walked
+  walked_formed x e = tested (well_formed t) (λ w. w) (λ w. absurd (cc (e, pick_false (well_formed t) (Ok (kept_from keep start 0 (records t))) (Err BadTable) w)))
 
-pub form_long : (t : List ℕ) → 65536 < length t → false ≡ well_formed t
-unfolding well_formed
-form_long t h = sym (pick_true _ _ _ (lt-ltb _ _ h))
+  walked_why : (why : Refusal) → Err why ≡ walked keep start t → (well_formed t ≡ false) × (why ≡ BadTable)
+  unfolding walked
+  walked_why why e =
+      tested (well_formed t) (λ w. absurd (cc (e, pick_true (well_formed t) (Ok (kept_from keep start 0 (records t))) (Err BadTable) w)))
+      (λ w. (w, cc (e, pick_false (well_formed t) (Ok (kept_from keep start 0 (records t))) (Err BadTable) w)))
 
-pub form_none : (t : List ℕ) → length t ≤ 65536 → Forming t t
-unfolding well_formed sound
-form_none t h = record { is = pick_false _ _ _ (le-ltb _ _ h) }
+  pub check_good : (x : K) → Ok x ≡ walked keep start t → 0 ≡ check_number t
+  unfolding check_number
+  check_good x e = sym (pick_false _ _ _ (ap not (walked_formed x e)))
 
-module _ (t l q : List ℕ) (w : Forming t l) (h : 0 < length l) (s : q ≡ head l) where
-  pub form_bad : item_good q ≡ false → false ≡ well_formed t
-  unfolding every
-  form_bad g = tested (eqb (length q) 0) none off
+  pub check_bad : (why : Refusal) → Err why ≡ walked keep start t → refusal_of why ≡ check_number t
+  unfolding check_number
+  check_bad why e = let p = walked_why why e in rw p.1 (sym (pick_true _ _ _ (ap not p.0)))
+
+-- ---- a walk that looks for an account: with an account known of the records before
+abbrev settled : Account → Lookup → Account
+settled k m = pick (eqb k.hash 0) (looked_in m) k
+
+settled_more : (user : List ℕ) (k : Account) (at : ℕ) (q : List ℕ) (rs : List (List ℕ))
+    → settled k (lookup_of user (first_from at user (q ∷ rs))) ≡ settled (kept user k at q) (lookup_of user (first_from (at + length q) user rs))
+unfolding first_from lookup_of pick
+settled_more user k at q rs = go (is_account_of user q) refl (eqb k.hash 0) refl
+  where
+    m : Lookup
+    m = lookup_of user (first_from (at + length q) user rs)
+
+    go : (a : Bool) → is_account_of user q ≡ a → (b : Bool) → eqb k.hash 0 ≡ b
+        → pick b (looked_in (lookup_of user (pick a (placed at q) (first_from (at + length q) user rs)))) k
+        ≡ settled (pick (not a) k (pick b (record { code = code_of q; hash = at + 6 }) k)) m
+    go true e true f = ap looked_in (pick_true _ _ _ e) ∙ sym (pick_false _ (looked_in m) _ (ne_eqb (at + 6) 0 (λ z. omega arith)))
+    go true e false f = sym (pick_false _ _ _ f)
+    go false e true f = sym (pick_true _ _ _ f)
+    go false e false f = sym (pick_false _ _ _ f)
+
+-- an account that is none is zeros
+abbrev IsPlain : Account → Type 0
+IsPlain k = k.hash ≡ 0 → k.code ≡ 0
+
+kept_plain : (user : List ℕ) (k : Account) (at : ℕ) (q : List ℕ) → IsPlain k → IsPlain (kept user k at q)
+kept_plain user k at q n = arms IsPlain _ n (arms IsPlain _ (λ z. absurd (omega arith)) n)
+
+none_found : (user : List ℕ) (at : ℕ) → lookup_of user (first_from at user []) ≡ absent
+unfolding first_from lookup_of is_account_of number_at pick
+none_found user at = refl
+
+module _ {K : Type 0} (keep : K → ℕ → List ℕ → K) (known : K → Account) (user : K → List ℕ) (keeps : (k : K) (at : ℕ) (r : List ℕ) → known (keep k at r) ≡ kept (user k) (known k) at r)
+    (stays : (k : K) (at : ℕ) (r : List ℕ) → user (keep k at r) ≡ user k) where
+  kept_is : (k : K) (at : ℕ) (rs : List (List ℕ)) → IsPlain (known k) → known (kept_from keep k at rs) ≡ settled (known k) (lookup_of (user k) (first_from at (user k) rs))
+  unfolding kept_from
+  kept_is k at [] n = plain ∙ ap (settled (known k)) (sym (none_found (user k) at))
     where
-      none : eqb (length q) 0 ≡ true → false ≡ well_formed t
-      none z = let p = stops l q s h (eqb-true _ _ z) in sym (w.is ∙ ap (every (λ r. framed r && record_good r)) p.is ∙ pick_false _ _ _ (and_first _ _ p.framed))
+      plain : known k ≡ settled (known k) absent
+      plain =
+          tested (eqb (known k).hash 0) (λ z. let e : (known k).hash ≡ 0 = eqb-true _ _ z in (λ j. looked (n e j) (e j)) ∙ sym (pick_true _ _ _ z))
+          (λ z. sym (pick_false _ _ _ z))
+  kept_is k at (r ∷ rs) n =
+      let p : IsPlain (known (keep k at r)) = rw (keeps k at r) (kept_plain (user k) (known k) at r n) in
+      kept_is (keep k at r) (at + length r) rs p ∙ rw (keeps k at r, stays k at r) (sym (settled_more (user k) (known k) at r rs))
 
-      off : eqb (length q) 0 ≡ false → false ≡ well_formed t
-      off z =
-          let p = next l q s (eqb-false _ _ z) in
-          sym (w.is ∙ ap (every (λ r. framed r && record_good r)) p.is ∙ pick_false _ _ _ (and_second _ _ p.framed (sym (pick_false _ _ _ z) ∙ g)))
+  module _ (t : List ℕ) (start : K) where
+    pub look_bad : (why : Refusal) → Err why ≡ walked keep start t → Err why ≡ looked_of t (user start)
+    look_bad why e = let p = walked_why keep t start why e in rw p.1 (sym (looked_bad t (user start) p.0))
 
-  pub form_more : item_good q ≡ true → Forming t (take (length l - length q) (drop (length q) l))
-  unfolding every
-  form_more g =
-      let p = next l q s (there l q s g) in
-      rw (rest_all l (length q)) record { is = w.is ∙ ap (every (λ r. framed r && record_good r)) p.is ∙ pick_true _ _ _ (and_both _ _ p.framed (good_formed q g)) }
+    pub look_good : (x : K) → known start ≡ looked 0 0 → Ok x ≡ walked keep start t → Ok (known x) ≡ looked_of t (user start)
+    unfolding walked account_of
+    look_good x s e =
+        let w : well_formed t ≡ true = walked_formed keep t start x e in
+        let f : x ≡ kept_from keep start 0 (records t) = cc (e, pick_true (well_formed t) (Ok (kept_from keep start 0 (records t))) (Err BadTable) w) in
+        let n : IsPlain (known start) = rw s (λ _. refl) in
+        let m : Lookup = lookup_of (user start) (account_of t (user start)) in
+        rw f (ap Ok (kept_is start 0 (records t) n ∙ ap (λ (k : Account). settled k m) s ∙ pick_true _ _ _ refl)) ∙ sym (looked_good t (user start) w)
 
-pub form_done : (t l : List ℕ) → Forming t l → length l ≤ 0 → true ≡ well_formed t
-unfolding every
-form_done t l w h = sym (w.is ∙ ap (every (λ r. framed r && record_good r)) (ends l (omega arith)))
+-- ---- what `find` makes of it
+module _ (t user : List ℕ) where
+  pub find_bad : (why : Refusal) → Err why ≡ looked_of t user → refuses (refusal_of why) absent ≡ find_told t user
+  find_bad why e = rw (looked_why t user why e) (sym (find_malformed t user (looked_refused t user why e)))
 
--- ---- what the walk told
-module _ (t user : List ℕ) (x : Told Lookup) (e : x ≡ told t user) (m : Bool) (i : m ≡ eqb x.number 21) where
-  pub walk_formed : m ≡ not (well_formed t)
-  unfolding pick
-  walk_formed = i ∙ ap (λ (y : Told Lookup). eqb y.number 21) e ∙ go (well_formed t)
+  pub find_over : (a : Account) → Ok a ≡ looked_of t user → max_name < length user → refuses 23 absent ≡ find_told t user
+  find_over a e l = sym (find_long t user (looked_formed t user a e) l)
+
+  pub find_there : (a : Account) (m : Lookup) → Ok a ≡ looked_of t user → m ≡ lookup_in a → length user ≤ max_name → gives m ≡ find_told t user
+  find_there a m e f l =
+      let w = looked_formed t user a e in
+      ap gives (f ∙ tested (is_account_of user (record_of t user)) (λ i. some i (cc (e, looked_there t user w i))) (λ i. none i (cc (e, looked_none t user w i)))) ∙ sym (find_gives t user w l)
     where
-      go : (b : Bool) → eqb (pick b (gives (lookup_of user (account_of t user))) (refuses 21 absent)).number 21 ≡ not b
-      go true = refl
-      go false = refl
+      some : is_account_of user (record_of t user) ≡ true → a ≡ looked (code_of (record_of t user)) ((account_of t user).place + 6) → lookup_in a ≡ lookup_of user (account_of t user)
+      some i g = rw g (pick_false _ _ _ (ne_eqb ((account_of t user).place + 6) 0 (λ z. omega arith))) ∙ sym (lookup_some user (account_of t user) i)
 
-  pub find_bad : m ≡ true → refuses 21 absent ≡ find_told t user
-  unfolding find_told
-  find_bad h = sym (pick_true _ _ _ (sym walk_formed ∙ h))
+      none : is_account_of user (record_of t user) ≡ false → a ≡ looked 0 0 → lookup_in a ≡ lookup_of user (account_of t user)
+      none i g = rw g (pick_true _ _ _ refl) ∙ sym (lookup_none user (account_of t user) i)
 
-  pub find_over : m ≡ false → max_name < length user → refuses 23 absent ≡ find_told t user
-  unfolding find_told
-  find_over h l = sym (pick_false _ _ _ (sym walk_formed ∙ h) ∙ pick_true _ _ _ (lt-ltb _ _ l))
-
-  pub find_there : m ≡ false → length user ≤ max_name → x ≡ find_told t user
-  unfolding find_told
-  find_there h l = e ∙ pick_true _ _ _ (not-false _ (sym walk_formed ∙ h)) ∙ sym (pick_false _ _ _ (sym walk_formed ∙ h) ∙ pick_false _ _ _ (le-ltb _ _ l))
-
-pub ruleset walks = (exits, gave_true, gave_false, good_formed, walk_long, walk_none, walk_bad, walk_fits, walk_less, walk_more, walk_done)
-
-pub ruleset forms = (exits, gave_true, gave_false, walk_fits, walk_less, form_long, form_none, form_bad, form_more, form_done)
+pub ruleset finds = (rules, find_bad, find_over, find_there)

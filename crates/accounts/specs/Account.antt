@@ -1,6 +1,7 @@
 -- 01, "Account table": the record of an account, and a table with an account more.
-use Rattle.std.specs.Prelude.{ℕ, ◌+◌, ◌/◌, ◌%◌, List, [], ◌∷◌, ◌++◌, not, length, take, ltb}
+use Rattle.std.specs.Prelude.{ℕ, ◌≡◌, ◌<◌, Option, Some, None, ◌+◌, ◌/◌, ◌%◌, List, [], ◌∷◌, ◌++◌, not, length, take, ltb}
 use Rattle.octets.specs.Choice.{pick}
+use Rattle.octets.specs.Lists.{Appended}
 use Rattle.answer.specs.Outcome.{Outcome, outcome, refused, fitting}
 use Rattle.answer.specs.Sizes.{max_name}
 use Rattle.accounts.specs.Accounts.{is_code, well_formed}
@@ -16,6 +17,16 @@ account_record code hash name = account_head (22 + length name) code ++ hash ++ 
 -- no octets for what has no record: a code that is not one of the five, or a name of more than 256 octets
 unfoldable pub record_for : ℕ → List ℕ → List ℕ → List ℕ
 record_for code hash name = pick (not (is_code code)) [] (pick (ltb max_name (length name)) [] (account_record code hash name))
+
+-- where the next record goes: none after one that was not appended
+abbrev pub next_or : ℕ → Option ℕ → ℕ
+next_or at None = at
+next_or at (Some next) = next
+
+-- the octets q were put into d from `at`, and r is the place after them; none where d stays as it is
+pub record AppendedAt (d : List ℕ) (at : ℕ) (q : List ℕ) (r : Option ℕ) (after : List ℕ) : Type 0 where
+  pub appended : Appended d at q (next_or at r) after
+  pub further : (next : ℕ) → r ≡ Some next → at < next
 
 -- ---- appending an account to the table t, in a buffer of room octets
 abbrev pub max_table : ℕ

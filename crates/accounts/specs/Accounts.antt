@@ -1,15 +1,16 @@
 -- 01, "Account table": the account table, and the account of a user.
-use Rattle.std.specs.Prelude.{ℕ, ◌+◌, List, [], ◌∷◌, Bool, true, false, not, ◌||◌, length, drop, ltb, eqb}
+use Rattle.std.specs.Prelude.{ℕ, ◌+◌, List, [], ◌∷◌, Bool, true, false, not, ◌||◌, Option, Some, None, Result, Ok, Err, length, drop, ltb, eqb}
 use Rattle.octets.specs.Choice.{pick}
 use Rattle.octets.specs.Lists.{part}
 use Rattle.octets.specs.Octets.{number_at, same}
 use Rattle.octets.specs.declared.Order.TheVariants.{Little}
+use Rattle.answer.specs.declared.Refusal.{Refusal}
+use Rattle.answer.specs.declared.Refusal.TheVariants.{BadTable}
 use Rattle.answer.specs.Outcome.{Told, gives, refuses}
+use Rattle.answer.specs.Results.{told_by}
 use Rattle.answer.specs.Sizes.{max_name}
 use Rattle.accounts.specs.Records.{kind_of, records, sound}
-use Rattle.accounts.specs.declared.Looked.{Looked}
-use Rattle.accounts.specs.declared.Found.{Found}
-use Rattle.accounts.specs.declared.Found.TheVariants as found
+use Rattle.accounts.specs.declared.Account.{Account}
 
 -- ---- well formed
 -- "Kind 1: code (2 octets little-endian: 0, 646, 647, 648 or 649), hash 16, name; record length 22 to 278"
@@ -72,16 +73,16 @@ pub data Lookup : Type 0 where
 unfoldable pub lookup_of : List ℕ → Placed → Lookup
 lookup_of user e = pick (is_account_of user e.octets) (account (code_of e.octets) (e.place + 6)) absent
 
--- the same as values: whether the table is well formed, and the account's code and place, or zeros
-abbrev pub looked : Bool → ℕ → ℕ → Looked
-looked formed code hash = record { formed = formed; code = code; hash = hash }
+-- the same as plain values: the account's code and place, or zeros; a refusal where the table is not well formed
+abbrev pub looked : ℕ → ℕ → Account
+looked code hash = record { code = code; hash = hash }
 
-abbrev pub looked_in : Lookup → Looked
-looked_in absent = looked true 0 0
-looked_in (account code hash) = looked true code hash
+abbrev pub looked_in : Lookup → Account
+looked_in absent = looked 0 0
+looked_in (account code hash) = looked code hash
 
-unfoldable pub looked_of : List ℕ → List ℕ → Looked
-looked_of t user = pick (well_formed t) (looked_in (lookup_of user (account_of t user))) (looked false 0 0)
+unfoldable pub looked_of : List ℕ → List ℕ → Result Account Refusal
+looked_of t user = pick (well_formed t) (Ok (looked_in (lookup_of user (account_of t user)))) (Err BadTable)
 
 -- 21, then 23 for a user of more than 256 octets, and else 0 with the account or none
 unfoldable pub find_told : List ℕ → List ℕ → Told Lookup
@@ -90,8 +91,9 @@ find_told t user =
     (pick (ltb max_name (length user)) (refuses 23 absent)
     (gives (lookup_of user (account_of t user))))
 
-abbrev pub told_found : Found → Told Lookup
-told_found found.Malformed = refuses 21 absent
-told_found found.BadUser = refuses 23 absent
-told_found found.Absent = gives absent
-told_found (found.Account code hash) = gives (account code hash)
+abbrev pub found_in : Option Account → Lookup
+found_in None = absent
+found_in (Some a) = account a.code a.hash
+
+abbrev pub told_found : Result (Option Account) Refusal → Told Lookup
+told_found r = told_by found_in absent r

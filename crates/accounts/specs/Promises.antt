@@ -1,5 +1,5 @@
 -- The table's definitions and calls are exactly the relations of Table; and what holds of accounts that are added.
-use Rattle.std.specs.Prelude.{ℕ, ◌+◌, ◌<◌, ◌≤◌, ◌≡◌, true, false, List, ◌++◌, length, take}
+use Rattle.std.specs.Prelude.{ℕ, ◌+◌, ◌<◌, ◌≤◌, ◌≡◌, true, false, Option, Result, List, ◌++◌, length, take}
 use Rattle.octets.specs.Choice.{pick}
 use Rattle.octets.specs.Lists.{part}
 use Rattle.octets.specs.Octets.{same}
@@ -9,7 +9,8 @@ use Rattle.answer.specs.Sizes.{max_name}
 use Rattle.accounts.specs.Records.{records}
 use Rattle.accounts.specs.Accounts.{is_code, well_formed, is_account_of, account_of, record_of, absent, account, lookup_of, check_number, find_told, told_found}
 use Rattle.accounts.specs.Account.{account_record, max_table, append_in}
-use Rattle.accounts.specs.declared.Found.{Found}
+use Rattle.accounts.specs.declared.Account.{Account}
+use Rattle.answer.specs.declared.Refusal.{Refusal}
 use Rattle.accounts.specs.Table.{IsTable, Checks, Tells}
 
 -- a well-formed table is good records end to end, and in one way alone
@@ -27,7 +28,7 @@ LookupsExact = (t user : List ℕ) → Exactly (Tells t user) (find_told t user)
 
 -- and two answers of `find` that tell the same are one answer
 abbrev pub FoundApart : Type 0
-FoundApart = (a b : Found) → told_found a ≡ told_found b → a ≡ b
+FoundApart = (a b : Result (Option Account) Refusal) → told_found a ≡ told_found b → a ≡ b
 
 -- ---- accounts that are added
 -- what is found in a table with an account more: what was found before it, or else this account under its name

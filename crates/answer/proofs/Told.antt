@@ -6,14 +6,13 @@ use mathlib.Core.Bool.{false}
 use lib.Dec.{eqb}
 use borrow.Author.Tests.{ne_eqb}
 use Rattle.answer.specs.Answer.{refusal_of}
-use Rattle.answer.specs.declared.Answer.TheVariants.{Written, Refused}
 use Rattle.answer.specs.declared.Refusal.{Refusal}
 use Rattle.answer.specs.Outcome.{refuses, told}
-use Rattle.answer.proofs.Apart.{numbers_apart}
+use Rattle.answer.proofs.Apart.{refusals_listed}
 
 -- the number of a refusal is not 0
 pub refusal_some : (why : Refusal) → eqb (refusal_of why) 0 ≡ false
-refusal_some why = ne_eqb (refusal_of why) 0 (λ z. let e = numbers_apart (Refused why) Written z in let y : ◌≡◌ {A = ℕ} 0 1 = cc in omega arith)
+refusal_some why = let h = refusals_listed why in ne_eqb (refusal_of why) 0 (λ z. omega (arith, h.0))
 
 pub told_number : {A : Type 0} (k : ℕ) (none x : A) → (told k none x).number ≡ k
 unfolding told

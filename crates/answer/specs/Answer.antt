@@ -1,7 +1,7 @@
 -- 01, "What a call answers": the number of each answer.
-use Rattle.std.specs.Prelude.{ℕ}
-use Rattle.answer.specs.declared.Answer.{Answer}
-use Rattle.answer.specs.declared.Answer.TheVariants.{Written, NeedsCredentials, Authenticated, Ended, Refused}
+use Rattle.std.specs.Prelude.{ℕ, Result, Ok, Err}
+use Rattle.answer.specs.declared.Done.{Done}
+use Rattle.answer.specs.declared.Done.TheVariants.{Written, NeedsCredentials, Authenticated, Ended}
 use Rattle.answer.specs.declared.Refusal.{Refusal}
 use Rattle.answer.specs.declared.Refusal.TheVariants.{Short, BadLength, TooLong, BadCode, BadType, BadOpCode, BadMsLength, BadForm, WrongIdentifier, NotTaken, NoRoom, BadTable, SameChallenge, BadArgument}
 
@@ -21,9 +21,13 @@ refusal_of BadTable = 21
 refusal_of SameChallenge = 22
 refusal_of BadArgument = 23
 
-abbrev pub number_of : Answer → ℕ
-number_of Written = 0
-number_of NeedsCredentials = 1
-number_of Authenticated = 2
-number_of Ended = 3
-number_of (Refused why) = refusal_of why
+abbrev pub done_of : Done → ℕ
+done_of Written = 0
+done_of NeedsCredentials = 1
+done_of Authenticated = 2
+done_of Ended = 3
+
+-- the number of what was done, or of the refusal
+abbrev pub number_of : Result Done Refusal → ℕ
+number_of (Ok done) = done_of done
+number_of (Err why) = refusal_of why

@@ -1,21 +1,21 @@
 -- The block, laid down part by part, and what it holds.
-use Prim.Native.Nat.{ℕ, ◌+◌, ◌-◌, ◌*◌, ◌/◌, ◌%◌, ◌≤◌, ◌<◌}
+use Prim.Native.Nat.{ℕ, ◌+◌, ◌-◌, ◌*◌, ◌%◌, ◌≤◌, ◌<◌}
 use mathlib.Core.Path.{◌≡◌, refl, sym, ap, ◌∙◌}
 use mathlib.Core.Bool.{true}
-use mathlib.Core.List.{List, [], ◌∷◌, ◌++◌, append-nil, append_assoc}
+use mathlib.Core.List.{List, [], ◌++◌, append-nil, append_assoc}
 use native.Mathlib.Omega.{arith}
-use lib.ListN.{length, get_or, take, drop, set, replicate, length-append, length-take, length-drop, drop_of_length-le}
-use lib.Seq.{take_at, drop_at, get_or-append-add}
-use borrow.Author.Rules.{rules}
+use lib.ListN.{length, get_or, take, drop, replicate, length-append, length-take, length-drop, drop_of_length-le}
+use lib.Seq.{take_at, drop_at, get_or-append-add, get_or-drop}
+use Rattle.std.proofs.Common.{Result, Ok}
+use Rattle.std.specs.Int.{w32, to_le_bytes, from_le_bytes}
 use borrow.Author.Tests.{le-ltb, eq-eqb}
-use Rattle.octets.specs.Lists.{sized, put, part}
+use Rattle.octets.specs.Lists.{cells, sized, put, part}
 use Rattle.octets.proofs.Exits.{pick_false}
-use Rattle.octets.proofs.Lists.{length_cells, get_or_cells, length_sized, sized_own, take_sized_sized, put_fits, put_put}
-use Rattle.octets.proofs.Loops.{Pasted, paste_none, paste_more, paste_done}
-use Rattle.octets.proofs.Parts.{length_part}
+use Rattle.octets.proofs.Lists.{length_cells, length_sized, get_or_sized, sized_take, take_sized_sized, put_fits, put_put}
+use Rattle.mschap.proofs.Pieces.{take_cells}
 use Rattle.digest.specs.Md4.{md4_of, md4_told, told_md4}
-use Rattle.digest.specs.declared.Md4Digest.{Md4Digest}
-use Rattle.digest.proofs.Digests.{md4_octets}
+use Rattle.digest.proofs.Digests.{md4_ok}
+use Rattle.answer.specs.declared.Refusal.{Refusal}
 use Rattle.des.specs.Des as des
 use Rattle.des.specs.Keys.{key_octets}
 use Rattle.des.proofs.Halves as halves
@@ -33,39 +33,14 @@ length_plain units random h =
     length-append (sized (512 - n) random) (password_octets units ++ four_octets n)
     ∙ omega (arith, length_sized (512 - n) random, length-append (password_octets units) (four_octets n), length_password units)
 
--- ---- the units, written from i on
-pub record Spread (d : List ℕ) (i : ℕ) (units dst : List ℕ) (k : ℕ) : Type 0 where
-  pub pasted : Pasted d i (password_octets units) dst k
-  pub count : length (password_octets units) ≡ 2 * length units
-
-pub spread_none : {d : List ℕ} {i : ℕ} {units : List ℕ} → i + 2 * length units ≤ length d → Spread d i units d 0
-spread_none {d} {i} {units} h =
-    let e = length_password units in
-    record { pasted = paste_none (omega arith) (omega arith); count = e }
-
-pub spread_more : {d : List ℕ} {i : ℕ} {units dst : List ℕ} {k x : ℕ} → Spread d i units dst k → k < 2 * length units → x ≡ unit_octet units k → Spread d i units (set dst (i + k) x) (k + 1)
-unfolding password_octets
-spread_more {d} {i} {units} {dst} {k} {x} p h e =
-    let g : get_or (password_octets units) k 0 ≡ x = get_or_cells (2 * length units) (unit_octet units) k h ∙ sym e in
-    record { pasted = rw g at (paste_more p.pasted (omega arith)); count = p.count }
-
-pub spread_done : {d : List ℕ} {i : ℕ} {units dst : List ℕ} {k : ℕ} → Spread d i units dst k → 2 * length units ≤ k → dst ≡ put d i (password_octets units)
-spread_done p h = paste_done p.pasted (omega arith)
-
-pub ruleset spreading = (rules, spread_none, spread_more, spread_done)
-
 -- ---- the three parts
-pub four_is : (n : ℕ) → n < 65536 → n % 256 ∷ n / 256 ∷ 0 ∷ 0 ∷ [] ≡ four_octets n
+four_is : (n : ℕ) → to_le_bytes w32 n ≡ four_octets n
 unfolding four_octets
-four_is n h =
-    let a : n / 256 ≡ n / 256 % 256 = omega arith in
-    let b : 0 ≡ n / 65536 % 256 = omega arith in
-    let c : 0 ≡ n / 16777216 % 256 = omega arith in
-    (λ i. n % 256 ∷ a i ∷ b i ∷ c i ∷ [])
+four_is n = refl
 
-pub plain_is : (units random b l1 l2 l3 four : List ℕ) → length units ≤ 256 → length b ≡ 516 → l1 ≡ sized (length b) random → l2 ≡ put l1 (512 - 2 * length units) (password_octets units) → four ≡ four_octets (2 * length units) → l3 ≡ put l2 512 four → l3 ≡ plain_block units random
-unfolding plain_block four_octets
-plain_is units random b l1 l2 l3 four h hb e1 e2 ef e3 =
+pub plain_is : (units random password l1 l2 l3 four : List ℕ) → length units ≤ 256 → password ≡ cells 512 (unit_octet units) → l1 ≡ sized 516 random → l2 ≡ put l1 (512 - 2 * length units) (take (2 * length units - 0) password) → four ≡ to_le_bytes w32 (2 * length units) → l3 ≡ put l2 512 four → l3 ≡ plain_block units random
+unfolding plain_block four_octets password_octets
+plain_is units random password l1 l2 l3 four h ep e1 e2 ef e3 =
     let n = 2 * length units in
     let i = 512 - n in
     let p = password_octets units in
@@ -73,11 +48,13 @@ plain_is units random b l1 l2 l3 four h hb e1 e2 ef e3 =
     let f = four_octets n in
     let lp = length_password units in
     let ld = length_sized 516 random in
+    let all : n - 0 ≡ n = omega arith in
+    let cut : take (n - 0) password ≡ p = ap (λ (m : ℕ). take m password) all ∙ ap (take n) ep ∙ take_cells n 512 (unit_octet units) (omega arith) in
     let lpf : length (p ++ f) ≡ n + 4 = length-append p f ∙ omega arith in
     let z : drop (i + length (p ++ f)) d ≡ [] = drop_of_length-le d {i = i + length (p ++ f)} (omega arith) in
     e3
     ∙ (λ k. put (e2 k) 512 (ef k))
-    ∙ ap (λ (l : List ℕ). put (put l i p) 512 f) (e1 ∙ ap (λ (k : ℕ). sized k random) hb)
+    ∙ (λ k. put (put (e1 k) i (cut k)) 512 (four_is n k))
     ∙ put_put d p f i 512 (omega arith) (omega arith)
     ∙ put_fits d (p ++ f) i (omega arith)
     ∙ ap (λ (l : List ℕ). take i d ++ (p ++ f) ++ l) z
@@ -123,22 +100,29 @@ module _ (units random : List ℕ) (h : length units ≤ 256) where
       ∙ ap (drop (512 - n)) (take_at (w ++ password_octets units) (four_octets n) 512 plain_front)
       ∙ drop_at w (password_octets units) (512 - n) (length_sized (512 - n) random)
 
--- ---- the hash of what a block holds
-pub hash_is : (b f l : List ℕ) (n s : ℕ) (d : Md4Digest) → n ≡ length_in b → s ≡ 512 - n → f ≡ take 512 (drop 0 b) → l ≡ drop s f → told_md4 d ≡ md4_told l → d.octets ≡ md4_of (octets_in b)
+-- ---- the length, and the hash of what a block holds
+pub length_is : (b a : List ℕ) (n : ℕ) → a ≡ sized 4 (drop 512 b) → n ≡ from_le_bytes w32 a → n ≡ length_in b
+unfolding length_in
+length_is b a n ea en =
+    let at : (k : ℕ) → k < 4 → get_or a k 0 ≡ get_or b (512 + k) 0 =
+    λ k h. ap (λ (l : List ℕ). get_or l k 0) ea ∙ get_or_sized 4 (drop 512 b) k h ∙ get_or-drop 512 b k 0 in
+    en ∙ omega (arith, at 0 (omega arith), at 1 (omega arith), at 2 (omega arith), at 3 (omega arith))
+
+pub hash_is : (b f l : List ℕ) (n s : ℕ) (r : Result (List ℕ) Refusal) → n ≡ length_in b → s ≡ 512 - n → f ≡ take 512 (drop 0 b) → l ≡ drop s f → told_md4 r ≡ md4_told l → r ≡ Ok (md4_of (octets_in b))
 unfolding octets_in
-hash_is b f l n s d en es ef el ed =
+hash_is b f l n s r en es ef el er =
     let e : l ≡ drop (512 - length_in b) (take 512 b) = el ∙ (λ k. drop (es k) (ef k)) ∙ ap (λ (m : ℕ). drop (512 - m) (take 512 b)) en in
-    md4_octets d l (drop (512 - length_in b) (take 512 b)) ed e (omega (arith, length-drop (512 - length_in b) (take 512 b), length-take 512 b))
+    md4_ok r l (drop (512 - length_in b) (take 512 b)) er e (omega (arith, length-drop (512 - length_in b) (take 512 b), length-take 512 b))
 
 -- ---- the two halves
-part_is : (s p l : List ℕ) (i n : ℕ) → i + n ≤ length s → p ≡ part s i n → l ≡ sized n p → l ≡ part s i n
-part_is s p l i n h e f = f ∙ ap (sized n) e ∙ sized_own n (part s i n) (length_part s i n h)
+part_is : (s l : List ℕ) (i n : ℕ) → i + n ≤ length s → l ≡ sized n (drop i s) → l ≡ part s i n
+part_is s l i n h e = e ∙ sized_take n (drop i s) (omega (arith, length-drop i s))
 
-pub half_is : (old new p k q h key r : List ℕ) (j : ℕ) → length old ≡ 16 → length new ≡ 16 → j < 2 → p ≡ part new (7 * j) 7 → k ≡ sized 7 p → q ≡ part old (8 * j) 8 → h ≡ sized 8 q → key ≡ key_octets k → r ≡ des.enciphered key h → r ≡ hash_half old new j
+pub half_is : (old new k h key r : List ℕ) (j : ℕ) → length old ≡ 16 → length new ≡ 16 → j < 2 → k ≡ sized 7 (drop (7 * j) new) → h ≡ sized 8 (drop (8 * j) old) → key ≡ key_octets k → r ≡ des.enciphered key h → r ≡ hash_half old new j
 unfolding hash_half
-half_is old new p k q h key r j lo ln hj ep ek eq eh ekey er =
-    let a : k ≡ part new (7 * j) 7 = part_is new p k (7 * j) 7 (omega arith) ep ek in
-    let b : h ≡ part old (8 * j) 8 = part_is old q h (8 * j) 8 (omega arith) eq eh in
+half_is old new k h key r j lo ln hj ek eh ekey er =
+    let a : k ≡ part new (7 * j) 7 = part_is new k (7 * j) 7 (omega arith) ek in
+    let b : h ≡ part old (8 * j) 8 = part_is old h (8 * j) 8 (omega arith) eh in
     er ∙ (λ i. des.enciphered (ekey i) (b i)) ∙ ap (λ (l : List ℕ). des.enciphered (key_octets l) (part old (8 * j) 8)) a
 
 length_half : (old new : List ℕ) (j : ℕ) → length (hash_half old new j) ≡ 8

@@ -1,19 +1,20 @@
 -- Which changes are valid, and what damage does to one.
-use Prim.Native.Nat.{ℕ, ◌%◌, ◌≤◌}
+use Prim.Native.Nat.{ℕ, ◌%◌, ◌<◌, ◌≤◌}
+use Rattle.std.proofs.Common.{Option, None, is_some}
 use mathlib.Core.Path.{◌≡◌, refl, sym, ap, ◌∙◌}
 use mathlib.Core.Bool.{Bool, true, false, not}
 use mathlib.Core.List.{List}
 use native.Mathlib.Omega.{arith}
 use lib.ListN.{length}
 use lib.Dec.{ltb}
-use borrow.Author.Tests.{le-ltb, ltb-false, ne_eqb, not-false}
+use borrow.Author.Tests.{lt-ltb, le-ltb, ltb-false, ne_eqb, not-false}
 use Rattle.octets.specs.Choice.{pick}
 use Rattle.octets.specs.Octets.{same}
-use Rattle.octets.proofs.Exits.{and_both, both, clash, pick_false, picked}
+use Rattle.octets.proofs.Exits.{and_both, both, clash, pick_true, pick_false, picked}
 use Rattle.octets.proofs.Scans.{same_refl, same_true}
 use Rattle.answer.specs.Sizes.{max_name}
 use Rattle.mschap.specs.Responses.{password_hash, nt_response, authenticator_of}
-use Rattle.change.specs.declared.Checked.{Checked}
+use Rattle.change.specs.declared.Renewal.{Renewal}
 use Rattle.change.specs.declared.NewPassword.{NewPassword}
 use Rattle.change.specs.Change.{password_block, length_in, is_length, password_in, deciphered_block, new_password, encrypted_hash, invalid, valid, all_right, chosen, checked_of}
 use Rattle.change.specs.Promises.{Valid, CheckExact, Damaged, DamageTold, BadLengths, Coincidence}
@@ -41,18 +42,18 @@ module _ (old challenge peer user block encrypted response : List ℕ) where
   unfolding checked_of chosen
   check_taken v = pick_false _ _ _ (le-ltb _ _ v.user_short) ∙ pick_false _ _ _ (ap not (valid_right v))
 
-  pub check_only : (checked_of old challenge peer user block encrypted response).valid ≡ true → Valid old challenge peer user block encrypted response
+  pub check_only : is_some (checked_of old challenge peer user block encrypted response) ≡ true → Valid old challenge peer user block encrypted response
   unfolding checked_of chosen
   check_only =
-      let P : Checked → Type 0 = λ c. c.valid ≡ true → Valid old challenge peer user block encrypted response in
+      let P : Option Renewal → Type 0 = λ c. is_some c ≡ true → Valid old challenge peer user block encrypted response in
       picked P _ (λ _ e. clash refl e)
       (λ u. picked P _ (λ _ e. clash refl e) (λ r e. right_valid (ltb-false _ _ u) (not-false _ r)))
 
   pub check_refused : (Valid old challenge peer user block encrypted response → ⊥) → checked_of old challenge peer user block encrypted response ≡ invalid
   unfolding checked_of chosen
   check_refused h =
-      picked (λ (c : Checked). c ≡ invalid) _ (λ _. refl)
-      (λ u. picked (λ (c : Checked). c ≡ invalid) _ (λ _. refl) (λ r. absurd (h (right_valid (ltb-false _ _ u) (not-false _ r)))))
+      picked (λ (c : Option Renewal). c ≡ invalid) _ (λ _. refl)
+      (λ u. picked (λ (c : Option Renewal). c ≡ invalid) _ (λ _. refl) (λ r. absurd (h (right_valid (ltb-false _ _ u) (not-false _ r)))))
 
   -- a length that is none
   pub length_refused : (new_password old block).valid ≡ false → checked_of old challenge peer user block encrypted response ≡ invalid
@@ -65,15 +66,25 @@ module _ (old challenge peer user block encrypted response : List ℕ) where
       ap (λ (n : NewPassword). pick (ltb max_name (length user)) invalid (chosen (all_right old challenge peer user n encrypted response) n.hash (authenticator_of n.hash response peer challenge user))) e
 
 -- what `check` makes of it, step by step
-pub checked_is : (old challenge peer user block encrypted response string : List ℕ) (new : NewPassword) (right : Bool) (r : Checked) → length user ≤ max_name → new ≡ new_password old block
-    → right ≡ all_right old challenge peer user new encrypted response → string ≡ authenticator_of new.hash response peer challenge user → r ≡ chosen right new.hash string
-    → r ≡ checked_of old challenge peer user block encrypted response
+pub checked_long : (old challenge peer user block encrypted response : List ℕ) → 256 < length user → None ≡ checked_of old challenge peer user block encrypted response
 unfolding checked_of
-checked_is old challenge peer user block encrypted response string new right r h n a s e =
-    e
-    ∙ (λ i. chosen (a i) new.hash (s i))
-    ∙ ap (λ (m : NewPassword). chosen (all_right old challenge peer user m encrypted response) m.hash (authenticator_of m.hash response peer challenge user)) n
-    ∙ sym (pick_false _ _ _ (le-ltb _ _ h))
+checked_long old challenge peer user block encrypted response h = sym (pick_true _ _ _ (lt-ltb _ _ h))
+
+module _ (old challenge peer user block encrypted response : List ℕ) (new : NewPassword) (right : Bool) (h : length user ≤ 256) (n : new ≡ new_password old block) (a : right ≡ all_right old challenge peer user new encrypted response) where
+  pub checked_by_is : chosen right new.hash (authenticator_of new.hash response peer challenge user) ≡ checked_of old challenge peer user block encrypted response
+  unfolding checked_of
+  checked_by_is =
+      (λ i. chosen (a i) new.hash (authenticator_of new.hash response peer challenge user))
+      ∙ ap (λ (m : NewPassword). chosen (all_right old challenge peer user m encrypted response) m.hash (authenticator_of m.hash response peer challenge user)) n
+      ∙ sym (pick_false _ _ _ (le-ltb _ _ h))
+
+  pub checked_not : right ≡ false → None ≡ checked_of old challenge peer user block encrypted response
+  unfolding chosen
+  checked_not f = sym (pick_true _ _ _ (ap not f)) ∙ checked_by_is
+
+  pub checked_so : (string : List ℕ) → right ≡ true → string ≡ authenticator_of new.hash response peer challenge user → valid new.hash string ≡ checked_of old challenge peer user block encrypted response
+  unfolding chosen
+  checked_so string t s = ap (valid new.hash) s ∙ sym (pick_false _ _ _ (ap not t)) ∙ checked_by_is
 
 pub check_exact : CheckExact
 check_exact = record { taken = check_taken; only = check_only; refused = check_refused }
@@ -129,7 +140,7 @@ bad_lengths = record {
 pub coincidence : Coincidence
 coincidence = record {
   taken = λ old own challenge peer user block units l c.
-      ap (λ (x : Checked). x.valid)
+      ap (λ (x : Option Renewal). is_some x)
       (check_taken own challenge peer user block (encrypted_hash old (password_hash units)) (nt_response challenge peer user (password_hash units))
       (record { user_short = l; length_right = c.length_right; hash_right = c.hashes; response_right = c.responses }));
   refused = λ old own challenge peer user block units d.

@@ -1,5 +1,5 @@
 -- 02, [2], and RFC 2759, 8.9 to 8.13: the new password under the old hash, and the old hash under the new one.
-use Rattle.std.specs.Prelude.{ℕ, ◌+◌, ◌-◌, ◌*◌, ◌/◌, ◌%◌, Bool, true, false, not, ◌&&◌, List, [], ◌∷◌, ◌++◌, ltb, eqb, length, get_or, take, drop, replicate}
+use Rattle.std.specs.Prelude.{ℕ, ◌+◌, ◌-◌, ◌*◌, ◌/◌, ◌%◌, Bool, false, not, ◌&&◌, List, [], ◌∷◌, ◌++◌, ltb, eqb, length, get_or, take, drop, Option, Some, None}
 use Rattle.octets.specs.Choice.{pick}
 use Rattle.octets.specs.Lists.{cells, sized, part}
 use Rattle.octets.specs.Octets.{same}
@@ -10,7 +10,7 @@ use Rattle.des.specs.Keys.{key_octets}
 use Rattle.mschap.specs.Responses.{unit_octet, nt_response, authenticator_of}
 use Rattle.rc4.specs.Rc4 as rc4
 use Rattle.change.specs.declared.NewPassword.{NewPassword}
-use Rattle.change.specs.declared.Checked.{Checked}
+use Rattle.change.specs.declared.Renewal.{Renewal}
 use Rattle.change.specs.Forms.{block_octets}
 
 -- ---- the password's units, each low octet first: `password_hash` is MD4 of them
@@ -63,23 +63,23 @@ unfoldable pub encrypted_hash : List ℕ → List ℕ → List ℕ
 encrypted_hash old new = hash_half old new 0 ++ hash_half old new 1
 
 -- ---- what the server makes of a change, by the user's old hash and its own challenge
-abbrev pub invalid : Checked
-invalid = record { valid = false; hash = replicate 16 0; string = replicate 20 0 }
+abbrev pub invalid : Option Renewal
+invalid = None
 
 -- with the new hash and the authenticator string's octets
-abbrev pub valid : List ℕ → List ℕ → Checked
-valid hash string = record { valid = true; hash = hash; string = string }
+abbrev pub valid : List ℕ → List ℕ → Option Renewal
+valid hash string = Some (record { hash = hash; string = string })
 
 -- "block length, encrypted hash and NT-Response all right", for the password that the block holds
 unfoldable pub all_right : List ℕ → List ℕ → List ℕ → List ℕ → NewPassword → List ℕ → List ℕ → Bool
 all_right old challenge peer user new encrypted response =
     new.valid && (same encrypted (encrypted_hash old new.hash) && same response (nt_response challenge peer user new.hash))
 
-unfoldable pub chosen : Bool → List ℕ → List ℕ → Checked
+unfoldable pub chosen : Bool → List ℕ → List ℕ → Option Renewal
 chosen right hash string = pick (not right) invalid (valid hash string)
 
 -- a user of more than 256 octets is nobody's
-unfoldable pub checked_of : List ℕ → List ℕ → List ℕ → List ℕ → List ℕ → List ℕ → List ℕ → Checked
+unfoldable pub checked_of : List ℕ → List ℕ → List ℕ → List ℕ → List ℕ → List ℕ → List ℕ → Option Renewal
 checked_of old challenge peer user block encrypted response =
     let new = new_password old block in
     pick (ltb max_name (length user)) invalid

@@ -1,5 +1,4 @@
 pub mod Forms
 pub mod Change
 pub mod Writing
-pub mod Inner
 pub mod Promises

@@ -1,5 +1,5 @@
 -- What holds of a password change: what is sent comes back, what is valid, and what a damaged one comes to.
-use Rattle.std.specs.Prelude.{ℕ, ◌-◌, ◌*◌, ◌%◌, ◌≤◌, ◌<◌, ◌≡◌, true, List, ◌++◌, length, get_or}
+use Rattle.std.specs.Prelude.{ℕ, ◌-◌, ◌*◌, ◌%◌, ◌≤◌, ◌<◌, ◌≡◌, true, is_some, List, ◌++◌, length, get_or}
 use Rattle.octets.specs.Lists.{part}
 use Rattle.answer.specs.Sizes.{max_name}
 use Rattle.digest.specs.Md4.{md4_of}
@@ -38,7 +38,7 @@ pub record CheckExact : Type 0 where
   pub taken : (old challenge peer user block encrypted response : List ℕ) → Valid old challenge peer user block encrypted response →
       checked_of old challenge peer user block encrypted response
       ≡ valid (new_password old block).hash (authenticator_of (new_password old block).hash response peer challenge user)
-  pub only : (old challenge peer user block encrypted response : List ℕ) → (checked_of old challenge peer user block encrypted response).valid ≡ true →
+  pub only : (old challenge peer user block encrypted response : List ℕ) → is_some (checked_of old challenge peer user block encrypted response) ≡ true →
       Valid old challenge peer user block encrypted response
   pub refused : (old challenge peer user block encrypted response : List ℕ) → (Valid old challenge peer user block encrypted response → ⊥) →
       checked_of old challenge peer user block encrypted response ≡ invalid
@@ -79,6 +79,6 @@ pub record Coincides (old own challenge peer user block units : List ℕ) : Type
 
 pub record Coincidence : Type 0 where
   pub taken : (old own challenge peer user block units : List ℕ) → length user ≤ max_name → Coincides old own challenge peer user block units →
-      (checked_of own challenge peer user block (encrypted_hash old (password_hash units)) (nt_response challenge peer user (password_hash units))).valid ≡ true
+      is_some (checked_of own challenge peer user block (encrypted_hash old (password_hash units)) (nt_response challenge peer user (password_hash units))) ≡ true
   pub refused : (old own challenge peer user block units : List ℕ) → (Coincides old own challenge peer user block units → ⊥) →
       checked_of own challenge peer user block (encrypted_hash old (password_hash units)) (nt_response challenge peer user (password_hash units)) ≡ invalid

@@ -1,188 +1,118 @@
 // A password change (RFC 2759, 8.9 to 8.13): the new password under the old hash, and the old hash under the new.
 #![tactic(auto)]
 
-ghost use Rattle.std.specs.Prelude.{◌≡◌, ◌+◌, ◌-◌, ◌*◌, ◌≤◌, ◌<◌, length};
-ghost use Rattle.octets.specs.Lists.{put, Appended};
-ghost use Rattle.answer.specs.Answer.{number_of, refusal_of};
+ghost use Rattle.std.specs.Prelude.{◌≡◌, ◌*◌, ◌≤◌, ◌<◌, length};
+ghost use Rattle.octets.specs.Lists.{Appended};
+ghost use Rattle.answer.specs.Results.{refusal_in, Writes};
 ghost use Rattle.answer.specs.Outcome.{Does};
-ghost use Rattle.answer.specs.Sizes.{max_name};
 ghost use Rattle.digest.specs.Md4.{md4_of};
-ghost use Rattle.mschap.specs.Responses.{half_of, password_hash, nt_response, authenticator_of};
-ghost use Rattle.packet.specs.Forms.{header};
-ghost use Rattle.change.specs.Forms.{block_octets, change_octets, change_packet, write_change_password};
-ghost use Rattle.change.specs.Change.{password_octets, four_octets, plain_block, password_block, length_in, is_length, octets_in, password_in, new_password, hash_half, encrypted_hash, all_right, chosen, checked_of};
-ghost use Rattle.change.specs.Writing.{changeable, renewal_in, write_change};
-ghost use Rattle.change.specs.Inner.{Refuses, change_by};
+ghost use Rattle.change.specs.Forms.{change_octets, change_packet, write_change_password};
+ghost use Rattle.change.specs.Change.{password_block, length_in, is_length, octets_in, password_in, new_password, hash_half, encrypted_hash, all_right, checked_of};
+ghost use Rattle.change.specs.Writing.{write_change, sent_octets, renewal_in};
 
-use answer::{Answer, ChapId, Identifier, Refusal};
-use writers::Written;
+use answer::Refusal;
+use mschap::Exchange;
+use writers::Ids;
 
-// Whether a block's length is one, and the hash of the octets that it holds.
+// Whether a block's length is one, and the hash of the octets that it holds. A flag beside the hash, and no Option: the hash
+// is computed and compared whatever the length, and the promises speak of it then too.
 #[derive(Clone, Copy)]
 pub struct NewPassword {
     pub valid: bool,
     pub hash: [u8; 16],
 }
 
-// Where the change is valid, the new hash and the authenticator string's octets, and else zeros.
+// What is kept of a change: the new hash, and the authenticator string that is to answer it.
 #[derive(Clone, Copy)]
-pub struct Checked {
-    pub valid: bool,
+pub struct Renewal {
     pub hash: [u8; 16],
     pub string: [u8; 20],
 }
 
-// The answer, and L of the packet written, or 0; the new hash and the authenticator string that is to answer it, or zeros.
+// L of the packet that was written, and what is kept of it.
 #[derive(Clone, Copy)]
 pub struct Sent {
-    pub answer: Answer,
     pub n: usize,
-    pub hash: [u8; 16],
-    pub string: [u8; 20],
+    pub renewal: Renewal,
 }
 
-// A Change-Password: its encrypted password, and L.
+// A Change-Password: its encrypted password, L, and the random octets that it takes.
 const BLOCK_OCTETS: usize = 516;
 
 const CHANGE_OCTETS: usize = 591;
 
-const INVALID: Checked = Checked {
-    valid: false,
-    hash: [0; 16],
-    string: [0; 20],
-};
+const FILLER_OCTETS: usize = 512;
 
 // ---- the block
 
-// The low half of a unit where k is even, and else the high half.
-fn half_of(unit: u16, k: usize) -> u8
-    ensures { result ≡ half_of unit k }
-{
-    if k % 2 == 0 {
-        return (unit % 256) as u8;
-    }
-    (unit / 256) as u8
-}
-
-// The units' octets, from i on.
-fn put_units(dst: &mut [u8], i: usize, units: &[u16])
-    requires { (length units.now ≤ 256) × (i + 2 * length units.now ≤ length dst.old) }
-    ensures { dst.new ≡ put dst.old i (password_octets units.now) }
+// The new password's block under the old hash: random octets, the password's octets, and their number.
+fn password_block(old: [u8; 16], units: &[u16], random: &[u8]) -> [u8; BLOCK_OCTETS]
+    requires { length units.now ≤ 256 }
+    ensures { result ≡ password_block old units.now random.now }
 {
     let n = 2 * units.len();
-    let mut k = 0;
-    while k < n {
-        let x = half_of(units[k / 2], k);
-        dst[i + k] = x;
-        k += 1;
-    }
-}
-
-// A number of at most 65,535 in four octets.
-fn four_octets(n: usize) -> [u8; 4]
-    requires { n < 65536 }
-    ensures { result ≡ four_octets n }
-{
-    [(n % 256) as u8, (n / 256) as u8, 0, 0]
-}
-
-fn plain_block(units: &[u16], random: &[u8], b: &mut [u8])
-    requires { (length units.now ≤ 256) × (length b.old ≡ block_octets) }
-    ensures { b.new ≡ plain_block units.now random.now }
-{
-    let n = 2 * units.len();
-    octets::fill(b, random);
-    put_units(b, 512 - n, units);
-    let four = four_octets(n);
-    octets::put_at(b, 512, &four);
-}
-
-// The new password's block under the old hash.
-fn password_block(old: [u8; 16], units: &[u16], random: &[u8], b: &mut [u8])
-    requires { (length units.now ≤ 256) × (length b.old ≡ block_octets) }
-    ensures { b.new ≡ password_block old units.now random.now }
-{
-    plain_block(units, random, b);
-    rc4::encipher(old, b);
+    let password = mschap::unit_octets(units);
+    let mut b: [u8; BLOCK_OCTETS] = octets::array_at(random, 0);
+    octets::put_at(&mut b, 512 - n, &password[0..n]);
+    octets::put_at(&mut b, 512, &(n as u32).to_le_bytes());
+    rc4::encipher(old, &mut b);
+    b
 }
 
 // ---- what a block holds
 
-fn wide(x: u8) -> usize
-    ensures { (result ≡ x) × (result < 256) }
-{
-    x as usize
-}
-
 // The number of the password's octets.
+#[tactic(auto, using(crate::proofs::Blocks::length_is))]
 fn length_in(b: &[u8]) -> usize
     ensures { result ≡ length_in b.now }
 {
-    let w = wide(octets::octet(b, 512));
-    let x = wide(octets::octet(b, 513));
-    let y = wide(octets::octet(b, 514));
-    let z = wide(octets::octet(b, 515));
-    w + x * 256 + y * 65536 + z * 16777216
+    u32::from_le_bytes(octets::array_at(b, 512)) as usize
 }
 
+#[tactic(auto, using(octets::proofs::Exits::wide), unfolding(crate::specs::Change::is_length))]
 fn is_length(n: usize) -> bool
     ensures { result ≡ is_length n }
 {
-    if 512 < n {
-        return false;
-    }
-    n % 2 == 0
-}
-
-// Where n octets that end at 511 begin.
-fn start_of(n: usize) -> usize
-    ensures { result ≡ 512 - n }
-{
-    if 512 < n {
-        return 0;
-    }
-    512 - n
+    n <= 512 && n % 2 == 0
 }
 
 fn hash_in(b: &[u8]) -> [u8; 16]
     ensures { result ≡ md4_of (octets_in b.now) }
 {
-    let n = length_in(b);
-    let start = start_of(n);
+    let start = 512usize.saturating_sub(length_in(b));
     let front = octets::part(b, 0, 512);
-    let d = digest::md4(octets::rest(front, start));
-    d.octets
+    digest::md4(octets::rest(front, start)).unwrap()
 }
 
+#[tactic(auto, unfolding(crate::specs::Change::password_in))]
 fn password_in(b: &[u8]) -> NewPassword
     ensures { result ≡ password_in b.now }
 {
-    let n = length_in(b);
-    let valid = is_length(n);
-    let hash = hash_in(b);
-    NewPassword { valid, hash }
+    NewPassword {
+        valid: is_length(length_in(b)),
+        hash: hash_in(b),
+    }
 }
 
 // What a block holds under the old hash.
+#[tactic(auto, unfolding(crate::specs::Change::new_password, crate::specs::Change::deciphered_block))]
 pub fn new_password(old: [u8; 16], block: &[u8]) -> NewPassword
     ensures { result ≡ new_password old block.now }
 {
-    let mut b = [0u8; BLOCK_OCTETS];
-    octets::fill(&mut b, block);
+    let mut b: [u8; BLOCK_OCTETS] = octets::array_at(block, 0);
     rc4::encipher(old, &mut b);
     password_in(&b)
 }
 
 // ---- the old hash under the new one
 
+#[tactic(auto, using(crate::proofs::Blocks::half_is))]
 fn hash_half(old: [u8; 16], new: [u8; 16], j: usize) -> [u8; 8]
     requires { j < 2 }
     ensures { result ≡ hash_half old new j }
 {
-    let mut part = [0u8; 7];
-    octets::fill(&mut part, octets::part(&new, 7 * j, 7));
-    let mut half = [0u8; 8];
-    octets::fill(&mut half, octets::part(&old, 8 * j, 8));
+    let part = octets::array_at(&new, 7 * j);
+    let half = octets::array_at(&old, 8 * j);
     des::encipher(des::key_octets(part), half)
 }
 
@@ -197,67 +127,28 @@ pub fn encrypted_hash(old: [u8; 16], new: [u8; 16]) -> [u8; 16]
     out
 }
 
-// ---- for users of at most 256 octets
-
-fn response_of(authenticator: [u8; 16], peer: [u8; 16], user: &[u8], hash: [u8; 16]) -> [u8; 24]
-    requires { length user.now ≤ max_name }
-    ensures { result ≡ nt_response authenticator peer user.now hash }
-{
-    let made = mschap::nt_response(authenticator, peer, user, hash);
-    made.octets
-}
-
-fn string_of(
-    hash: [u8; 16],
-    response: [u8; 24],
-    peer: [u8; 16],
-    authenticator: [u8; 16],
-    user: &[u8],
-) -> [u8; 20]
-    requires { length user.now ≤ max_name }
-    ensures { result ≡ authenticator_of hash response peer authenticator user.now }
-{
-    let made = mschap::authenticator_string(hash, response, peer, authenticator, user);
-    made.octets
-}
-
 // ---- what the server makes of a change
 
 // Whether length, encrypted hash and NT-Response are right. All three are computed and compared whole, whichever is wrong.
+#[tactic(auto, unfolding(crate::specs::Change::all_right))]
 fn all_right(
     old: [u8; 16],
-    challenge: [u8; 16],
-    peer: [u8; 16],
-    user: &[u8],
+    exchange: &Exchange<'_>,
     new: NewPassword,
     encrypted: [u8; 16],
     response: [u8; 24],
 ) -> bool
-    requires { length user.now ≤ max_name }
-    ensures { result ≡ all_right old challenge peer user.now new encrypted response }
+    ensures { result ≡ all_right old exchange.now.authenticator exchange.now.peer exchange.now.user.now new encrypted response }
 {
-    let hash = new.hash;
-    let under = encrypted_hash(old, hash);
-    let own = response_of(challenge, peer, user, hash);
+    let under = encrypted_hash(old, new.hash);
+    let own = exchange.nt_response(new.hash);
     let known = octets::equal(&encrypted, &under);
     let computed = octets::equal(&response, &own);
     new.valid & (known & computed)
 }
 
-fn chosen(right: bool, hash: [u8; 16], string: [u8; 20]) -> Checked
-    ensures { result ≡ chosen right hash string }
-{
-    if !right {
-        return INVALID;
-    }
-    Checked {
-        valid: true,
-        hash,
-        string,
-    }
-}
-
-// A change that a user sent, by the old hash of its account and the challenge that it answers.
+// A change that a user sent, by the old hash of its account and the challenge that it answers. The string is computed in any
+// case.
 pub fn check(
     old: [u8; 16],
     challenge: [u8; 16],
@@ -266,161 +157,70 @@ pub fn check(
     block: &[u8],
     encrypted: [u8; 16],
     response: [u8; 24],
-) -> Checked
+) -> Option<Renewal>
     ensures { result ≡ checked_of old challenge peer user.now block.now encrypted response }
 {
-    if answer::MAX_NAME < user.len() {
-        return INVALID;
-    }
+    let Ok(exchange) = Exchange::new(challenge, peer, user) else {
+        return None;
+    };
     let new = new_password(old, block);
+    let right = all_right(old, &exchange, new, encrypted, response);
+    let string = exchange.authenticator_string(new.hash, response);
+    if !right {
+        return None;
+    }
     let hash = new.hash;
-    let right = all_right(old, challenge, peer, user, new, encrypted, response);
-    let string = string_of(hash, response, peer, challenge, user);
-    chosen(right, hash, string)
+    Some(Renewal { hash, string })
 }
 
 // ---- the packet
 
-// The first nine octets: Code 2, Identifier, L = 591, Type 26, OpCode 7, MS-CHAPv2-ID, MS-Length = 586.
-fn put_header(id: Identifier, chapid: ChapId, out: &mut [u8]) -> usize
-    ensures { Appended out.old 0 (header 2 7 id.0 chapid.0 change_octets) result out.new }
-{
-    octets::append(out, 0, &[2, id.0, 2, 79, 26, 7, chapid.0, 2, 74])
-}
-
+// Code 2, OpCode 7.
 fn put_change(
-    id: Identifier,
-    chapid: ChapId,
-    block: &[u8],
-    hash: &[u8],
-    peer: &[u8],
-    response: &[u8],
+    ids: Ids,
+    block: &[u8; BLOCK_OCTETS],
+    hash: [u8; 16],
+    peer: [u8; 16],
+    response: [u8; 24],
     out: &mut [u8],
 ) -> usize
-    requires { (length block.now ≡ block_octets) × (length hash.now ≡ 16) × (length peer.now ≡ 16) × (length response.now ≡ 24) × (change_octets ≤ length out.old) }
-    ensures { Appended out.old 0 (change_packet id.0 chapid.0 block.now hash.now peer.now response.now) result out.new }
+    requires { change_octets ≤ length out.old }
+    ensures { Appended out.old 0 (change_packet ids.id.0 ids.chapid.0 block.now hash peer response) result out.new }
 {
-    let at = put_header(id, chapid, out);
+    let at = writers::put_header(2, 7, ids, CHANGE_OCTETS as u16, out);
     let at = octets::append(out, at, block);
-    let at = octets::append(out, at, hash);
-    let at = octets::append(out, at, peer);
+    let at = octets::append(out, at, &hash);
+    let at = octets::append(out, at, &peer);
     let at = octets::append(out, at, &[0, 0, 0, 0, 0, 0, 0, 0]);
-    let at = octets::append(out, at, response);
+    let at = octets::append(out, at, &response);
     octets::append(out, at, &[0, 0])
-}
-
-fn refuse_written(why: Refusal) -> Written
-    ensures { (number_of result.answer ≡ refusal_of why) × (result.n ≡ 0) }
-{
-    Written {
-        answer: Answer::Refused(why),
-        n: 0,
-    }
-}
-
-fn done(n: usize) -> Written
-    ensures { (number_of result.answer ≡ 0) × (result.n ≡ n) }
-{
-    Written {
-        answer: Answer::Written,
-        n,
-    }
 }
 
 // Writes a Change-Password of these fields.
 pub fn write_change_password(
-    id: Identifier,
-    chapid: ChapId,
+    ids: Ids,
     block: &[u8],
     hash: [u8; 16],
     peer: [u8; 16],
     response: [u8; 24],
     out: &mut [u8],
-) -> Written
-    ensures { Does (write_change_password id.0 chapid.0 block.now hash peer response (length out.old)) (number_of result.answer) result.n tt out.old out.new }
+) -> Result<usize, Refusal>
+    ensures { Writes (write_change_password ids.id.0 ids.chapid.0 block.now hash peer response (length out.old)) result out.old out.new }
 {
-    if block.len() != BLOCK_OCTETS {
-        return refuse_written(Refusal::BadArgument);
-    }
+    let Ok(block) = <&[u8; BLOCK_OCTETS]>::try_from(block) else {
+        return Err(Refusal::BadArgument);
+    };
     if out.len() < CHANGE_OCTETS {
-        return refuse_written(Refusal::NoRoom);
+        return Err(Refusal::NoRoom);
     }
-    let n = put_change(id, chapid, block, &hash, &peer, &response, out);
-    done(n)
+    Ok(put_change(ids, block, hash, peer, response, out))
 }
 
 // ---- what the peer sends
 
-// What a change is made of, beside user, password and random octets: the challenges, and the old and the new hash.
-#[derive(Clone, Copy)]
-struct Keys {
-    authenticator: [u8; 16],
-    own: [u8; 16],
-    old: [u8; 16],
-    hash: [u8; 16],
-}
-
-fn refuse(why: Refusal) -> Sent
-    ensures { Refuses (refusal_of why) result }
-{
-    Sent {
-        answer: Answer::Refused(why),
-        n: 0,
-        hash: [0u8; 16],
-        string: [0u8; 20],
-    }
-}
-
-fn changeable(user: &[u8], old: &[u16], new: &[u16], filler: &[u8]) -> bool
-    ensures { result ≡ changeable user.now old.now new.now filler.now }
-{
-    (user.len() <= answer::MAX_NAME)
-        & ((old.len() <= 256) & ((new.len() <= 256) & (filler.len() == 512)))
-}
-
-fn hash_of(units: &[u16]) -> [u8; 16]
-    requires { length units.now ≤ 256 }
-    ensures { result ≡ password_hash units.now }
-{
-    let made = mschap::password_hash(units);
-    made.octets
-}
-
-fn send(
-    id: Identifier,
-    chapid: ChapId,
-    keys: Keys,
-    user: &[u8],
-    new: &[u16],
-    filler: &[u8],
-    reply: &mut [u8],
-) -> Sent
-    requires { (length user.now ≤ max_name) × (length new.now ≤ 256) × (change_octets ≤ length reply.old) }
-    ensures { Does (change_by id.0 chapid.0 keys user.now new.now filler.now) (number_of result.answer) result.n (renewal_in result) reply.old reply.new }
-{
-    let authenticator = keys.authenticator;
-    let own = keys.own;
-    let old = keys.old;
-    let hash = keys.hash;
-    let mut block = [0u8; BLOCK_OCTETS];
-    password_block(old, new, filler, &mut block);
-    let under = encrypted_hash(old, hash);
-    let response = response_of(authenticator, own, user, hash);
-    let string = string_of(hash, response, own, authenticator, user);
-    let w = write_change_password(id, chapid, &block, under, own, response, reply);
-    let answer = w.answer;
-    Sent {
-        answer,
-        n: w.n,
-        hash,
-        string,
-    }
-}
-
 // Writes the Change-Password to the authenticator's challenge; `own` is the peer's.
 pub fn write(
-    id: Identifier,
-    chapid: ChapId,
+    ids: Ids,
     authenticator: [u8; 16],
     own: [u8; 16],
     user: &[u8],
@@ -428,22 +228,25 @@ pub fn write(
     new: &[u16],
     filler: &[u8],
     reply: &mut [u8],
-) -> Sent
-    ensures { Does (write_change id.0 chapid.0 authenticator own user.now old.now new.now filler.now (length reply.old)) (number_of result.answer) result.n (renewal_in result) reply.old reply.new }
+) -> Result<Sent, Refusal>
+    ensures { Does (write_change ids.id.0 ids.chapid.0 authenticator own user.now old.now new.now filler.now (length reply.old)) (refusal_in result) (sent_octets result) (renewal_in result) reply.old reply.new }
 {
-    if !changeable(user, old, new, filler) {
-        return refuse(Refusal::BadArgument);
+    let exchange = Exchange::new(authenticator, own, user)?;
+    let old_hash = mschap::password_hash(old)?;
+    let hash = mschap::password_hash(new)?;
+    if filler.len() != FILLER_OCTETS {
+        return Err(Refusal::BadArgument);
     }
     if reply.len() < CHANGE_OCTETS {
-        return refuse(Refusal::NoRoom);
+        return Err(Refusal::NoRoom);
     }
-    let was = hash_of(old);
-    let hash = hash_of(new);
-    let keys = Keys {
-        authenticator,
-        own,
-        old: was,
-        hash,
-    };
-    send(id, chapid, keys, user, new, filler, reply)
+    let block = password_block(old_hash, new, filler);
+    let under = encrypted_hash(old_hash, hash);
+    let response = exchange.nt_response(hash);
+    let string = exchange.authenticator_string(hash, response);
+    let n = put_change(ids, &block, under, own, response, reply);
+    Ok(Sent {
+        n,
+        renewal: Renewal { hash, string },
+    })
 }

@@ -26,43 +26,6 @@ length_shown : (x : ℕ) → Short (shown_as x)
 unfolding shown_as
 length_shown x = arms Short (ltb x 32) (omega arith) (arms Short (ltb x 127) (short_plain x) (omega arith))
 
--- ---- one octet
-pub shown_low : (x n : ℕ) (l : List ℕ) → x < 32 → l ≡ escaped x → n ≡ 4 → Fronts (shown_as x) l n
-unfolding shown_as
-shown_low x n l h e k =
-    let q : shown_as x ≡ escaped x = pick_true _ _ _ (lt-ltb _ _ h) in
-    rw (q, e, k) (record { front = refl; count = refl })
-
-pub shown_quote : (x : ℕ) → x ≡ 34 → Fronts (shown_plain x) (92 ∷ x ∷ 0 ∷ 0 ∷ []) 2
-unfolding shown_plain
-shown_quote x h =
-    let q : shown_plain x ≡ 92 ∷ x ∷ [] = pick_true _ _ _ (eq-eqb _ _ h) in
-    rw q (record { front = refl; count = refl })
-
-pub shown_backslash : (x : ℕ) → (x ≡ 34 → ⊥) → x ≡ 92 → Fronts (shown_plain x) (92 ∷ x ∷ 0 ∷ 0 ∷ []) 2
-unfolding shown_plain
-shown_backslash x h k =
-    let q : shown_plain x ≡ 92 ∷ x ∷ [] = pick_false _ _ _ (ne_eqb _ _ h) ∙ pick_true _ _ _ (eq-eqb _ _ k) in
-    rw q (record { front = refl; count = refl })
-
-pub shown_bare : (x : ℕ) → (x ≡ 34 → ⊥) → (x ≡ 92 → ⊥) → Fronts (shown_plain x) (x ∷ 0 ∷ 0 ∷ 0 ∷ []) 1
-unfolding shown_plain
-shown_bare x h k =
-    let q : shown_plain x ≡ x ∷ [] = pick_false _ _ _ (ne_eqb _ _ h) ∙ pick_false _ _ _ (ne_eqb _ _ k) in
-    rw q (record { front = refl; count = refl })
-
-pub shown_plain_lem : (x n : ℕ) (l : List ℕ) → 32 ≤ x → x < 127 → Fronts (shown_plain x) l n → Fronts (shown_as x) l n
-unfolding shown_as
-shown_plain_lem x n l h k p =
-    let q : shown_as x ≡ shown_plain x = pick_false _ _ _ (le-ltb _ _ h) ∙ pick_true _ _ _ (lt-ltb _ _ k) in
-    rw q p
-
-pub shown_high : (x n : ℕ) (l : List ℕ) → 32 ≤ x → 127 ≤ x → l ≡ escaped x → n ≡ 4 → Fronts (shown_as x) l n
-unfolding shown_as
-shown_high x n l g h e k =
-    let q : shown_as x ≡ escaped x = pick_false _ _ _ (le-ltb _ _ g) ∙ pick_false _ _ _ (le-ltb _ _ h) in
-    rw (q, e, k) (record { front = refl; count = refl })
-
 -- ---- octet by octet
 length_visible : (s : List ℕ) → length (visible s) ≤ 4 * length s
 unfolding visible
@@ -92,4 +55,4 @@ visible_done s q old l n i p h =
 pub piece_fits : (r s d : List ℕ) (i : ℕ) → r ≡ take 64 (drop i s) → length d ≡ 256 → 4 * length r ≤ length d
 piece_fits r s d i e h = omega (arith, ap length e, length-take 64 (drop i s), min-le_left 64 (length (drop i s)))
 
-pub ruleset texts = (rules, visible_none, visible_more, visible_done, shown_quote, shown_backslash, shown_bare, shown_low, shown_plain_lem, shown_high, piece_fits)
+pub ruleset texts = (rules, visible_none, visible_more, visible_done, piece_fits)

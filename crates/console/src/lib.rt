@@ -5,7 +5,7 @@ ghost use Rattle.std.specs.Prelude.{◌≡◌, ◌*◌, ◌≤◌, length, IfSom
 ghost use Rattle.std.specs.Str.{IsUtf8};
 ghost use Rattle.octets.specs.Lists.{cells, Appended};
 ghost use Rattle.console.specs.Reads.{Leaves};
-ghost use Rattle.console.specs.Inner.{spaced_at, escaped, shown_plain, shown_as, visible, Fronts};
+ghost use Rattle.console.specs.Inner.{spaced_at, shown_as, visible, Fronts};
 
 use std::env::{Env, FillError};
 use std::fmt::Write;
@@ -17,12 +17,11 @@ const STDOUT: i32 = 1;
 
 const STDERR: i32 = 2;
 
-// A file as it was read: not opened, not read whole, or so many octets at the front of a buffer.
-#[derive(Clone, Copy)]
-pub enum File {
+// Why a file was not read: it was not opened, or not read whole.
+#[derive(Clone, Copy, PartialEq, Eq)]
+pub enum ReadError {
     Unopened,
     Unread,
-    Read(usize),
 }
 
 // ---- arguments
@@ -33,9 +32,8 @@ pub fn arg_count<R: Env>(rt: &R) -> usize
 {
     let mut none = [0u8; 0];
     for i in 0..usize::MAX {
-        match rt.arg(i, &mut none) {
-            Err(FillError::NotPresent) => return i,
-            _ => {}
+        if let Err(FillError::NotPresent) = rt.arg(i, &mut none) {
+            return i;
         }
     }
     usize::MAX
@@ -45,10 +43,7 @@ pub fn arg_count<R: Env>(rt: &R) -> usize
 pub fn arg<R: Env>(rt: &R, i: usize, buffer: &mut [u8]) -> Option<usize>
     ensures { IfSome result (λ n. n ≤ length buffer.new) }
 {
-    match rt.arg(i, buffer) {
-        Ok(n) => Some(n),
-        Err(_) => None,
-    }
+    rt.arg(i, buffer).ok()
 }
 
 // ---- reading
@@ -57,29 +52,27 @@ pub fn arg<R: Env>(rt: &R, i: usize, buffer: &mut [u8]) -> Option<usize>
 pub fn path_of(path: &[u8]) -> std::io::Result<&str>
     ensures { MatchResult result (λ text. text.now ≡ path.now) (λ _. IsUtf8 path.now → ⊥) }
 {
-    match std::str::from_utf8(path) {
-        Ok(text) => Ok(text),
-        Err(_) => Err(Error::from(ErrorKind::InvalidFilename)),
-    }
+    std::str::from_utf8(path).map_err(|_| Error::from(ErrorKind::InvalidFilename))
 }
 
 // Reads to the end of the file, or until the buffer is full. A read that fails is not the end: where it was a signal that
 // interrupted it, too, the file counts as unread.
-fn read_open<F: Read>(what: &[u8], file: &mut F, buffer: &mut [u8]) -> File
+fn read_open<F: Read>(what: &[u8], file: &mut F, buffer: &mut [u8]) -> Result<usize, ReadError>
     ensures { Leaves result buffer.old buffer.new }
 {
     let mut n = 0;
+    // no `for`: n grows by what a read gives
     while n < buffer.len() {
         match file.read(&mut buffer[n..]) {
-            Ok(0) => return File::Read(n),
+            Ok(0) => return Ok(n),
             Ok(more) => n += more,
             Err(cause) => {
                 blame(what, b" cannot be read", cause);
-                return File::Unread;
+                return Err(ReadError::Unread);
             }
         }
     }
-    File::Read(n)
+    Ok(n)
 }
 
 fn open<R: Files>(rt: &R, path: &[u8]) -> std::io::Result<R::File> {
@@ -88,20 +81,25 @@ fn open<R: Files>(rt: &R, path: &[u8]) -> std::io::Result<R::File> {
 
 // The file at a path, or as much of it as the buffer takes. Where it cannot be read so far, says so on standard error, with
 // `what` for its name and with the cause.
-pub fn read<R: Files>(rt: &R, what: &[u8], path: &[u8], buffer: &mut [u8]) -> File
+pub fn read<R: Files>(
+    rt: &R,
+    what: &[u8],
+    path: &[u8],
+    buffer: &mut [u8],
+) -> Result<usize, ReadError>
     ensures { (what.now ≡ what.now) × (path.now ≡ path.now) × Leaves result buffer.old buffer.new }
 {
     match open(rt, path) {
         Ok(mut file) => read_open(what, &mut file, buffer),
         Err(cause) => {
             blame(what, b" cannot be opened", cause);
-            File::Unopened
+            Err(ReadError::Unopened)
         }
     }
 }
 
 // Standard input, in the same way.
-pub fn read_input<R: Input>(rt: &R, what: &[u8], buffer: &mut [u8]) -> File
+pub fn read_input<R: Input>(rt: &R, what: &[u8], buffer: &mut [u8]) -> Result<usize, ReadError>
     ensures { (what.now ≡ what.now) × Leaves result buffer.old buffer.new }
 {
     let mut input = rt.reader();
@@ -124,7 +122,7 @@ pub fn complain_number(n: u64)
     io::print_decimal(STDERR, n);
 }
 
-// Text in a space of its own; what does not fit is dropped.
+// Text in a space of its own; what does not fit is dropped, octet by octet (an ArrayString would drop the whole piece).
 #[derive(Drop)]
 struct Text {
     octets: [u8; 256],
@@ -231,19 +229,16 @@ pub fn code(code: u64)
 pub fn hex(s: &[u8])
     ensures { s.now ≡ s.now }
 {
-    let mut at = 0;
-    while at < s.len() {
-        let piece = octets::part(s, at, 16);
+    for piece in s.chunks(16) {
         let mut text = [0u8; 32];
         octets::to_hex(&mut text, piece);
-        let n = piece.len() * 2;
-        say(octets::part(&text, 0, n));
-        at += 16;
+        say(octets::part(&text, 0, piece.len() * 2));
     }
 }
 
 // ---- lines of octets
 
+#[tactic(auto, using(octets::proofs::Exits::exits), unfolding(crate::specs::Inner::spaced_at))]
 fn spaced_at(s: &[u8], k: usize) -> u8
     ensures { result ≡ spaced_at s.now k }
 {
@@ -253,28 +248,20 @@ fn spaced_at(s: &[u8], k: usize) -> u8
     octets::hex_at(s, k / 3 * 2 + k % 3)
 }
 
+#[tactic(auto, using(octets::proofs::Loops::filling))]
 fn spaced(s: &[u8]) -> [u8; 48]
     ensures { result ≡ cells 48 (spaced_at s.now) }
 {
     let mut text = [0u8; 48];
-    let mut i = 0;
-    while i < 48 {
-        let x = spaced_at(s, i);
-        text[i] = x;
-        i += 1;
+    for (i, x) in text.iter_mut().enumerate() {
+        *x = spaced_at(s, i);
     }
     text
 }
 
 // How much of a line n octets take.
 fn width(n: usize) -> usize {
-    if n == 0 {
-        return 0;
-    }
-    if n < 16 {
-        return n * 3 - 1;
-    }
-    47
+    (n.min(16) * 3).saturating_sub(1)
 }
 
 // Up to 16 octets, with spaces between them.
@@ -288,91 +275,42 @@ fn line(s: &[u8]) {
 pub fn lines(s: &[u8], margin: &[u8])
     ensures { (s.now ≡ s.now) × (margin.now ≡ margin.now) }
 {
-    line(s);
-    let mut at = 16;
-    while at < s.len() {
-        say(b"\n");
-        say(margin);
-        line(octets::rest(s, at));
-        at += 16;
+    for (i, piece) in s.chunks(16).enumerate() {
+        if 0 < i {
+            say(b"\n");
+            say(margin);
+        }
+        line(piece);
     }
 }
 
 // ---- text
 
-// An octet as it is shown, at the front of an array.
-#[derive(Clone, Copy)]
-struct Shown {
-    text: [u8; 4],
-    len: usize,
-}
-
-fn escape(x: u8) -> Shown
-    ensures { (result.text ≡ escaped x) × (result.len ≡ 4) }
-{
-    let one = [x];
-    let high = octets::hex_at(&one, 0);
-    let low = octets::hex_at(&one, 1);
-    Shown {
-        text: [92, 120, high, low],
-        len: 4,
-    }
-}
-
-// A printable octet: a quotation mark and a backslash have a backslash before them.
-fn show_plain(x: u8) -> Shown
-    ensures { Fronts (shown_plain x) result.text result.len }
-{
-    if x == 34 {
-        return Shown {
-            text: [92, x, 0, 0],
-            len: 2,
-        };
-    }
-    if x == 92 {
-        return Shown {
-            text: [92, x, 0, 0],
-            len: 2,
-        };
-    }
-    Shown {
-        text: [x, 0, 0, 0],
-        len: 1,
-    }
-}
-
-fn show_octet(x: u8) -> Shown
-    ensures { Fronts (shown_as x) result.text result.len }
-{
-    if x < 32 {
-        return escape(x);
-    }
-    if x < 127 {
-        return show_plain(x);
-    }
-    escape(x)
-}
-
+// An octet as it is shown: printable ASCII as it is, but for a backslash before a quotation mark and a backslash.
+#[tactic(auto, using(octets::proofs::Exits::exits, octets::proofs::Appends::appended_by), unfolding(crate::specs::Inner::shown_as, crate::specs::Inner::shown_plain))]
 fn append_shown(dst: &mut [u8], n: usize, x: u8) -> usize
     ensures { Appended dst.old n (shown_as x) result dst.new }
 {
-    let s = show_octet(x);
-    let text = s.text;
-    let len = s.len;
-    octets::append(dst, n, octets::part(&text, 0, len))
+    match x {
+        34 | 92 => octets::append(dst, n, &[92, x]),
+        32..=126 => octets::append(dst, n, &[x]),
+        _ => {
+            let high = octets::hex_at(&[x], 0);
+            let low = octets::hex_at(&[x], 1);
+            octets::append(dst, n, &[92, 120, high, low])
+        }
+    }
 }
 
 // Text at the front of dst, which has four octets for each of its octets; how many octets that is.
+#[tactic(auto, using(crate::proofs::Texts::texts))]
 fn show_into(dst: &mut [u8], s: &[u8]) -> usize
     requires { 4 * length s.now ≤ length dst.old }
     ensures { Fronts (visible s.now) dst.new result }
 {
     let mut n = 0;
-    let mut i = 0;
-    while i < s.len() {
-        let x = s[i];
-        n = append_shown(dst, n, x);
-        i += 1;
+    for x in s {
+        n = append_shown(dst, n, *x);
     }
     n
 }
@@ -382,12 +320,10 @@ pub fn quoted(s: &[u8])
     ensures { s.now ≡ s.now }
 {
     say(b"\"");
-    let mut at = 0;
-    while at < s.len() {
+    for piece in s.chunks(64) {
         let mut text = [0u8; 256];
-        let n = show_into(&mut text, octets::part(s, at, 64));
+        let n = show_into(&mut text, piece);
         say(octets::part(&text, 0, n));
-        at += 64;
     }
     say(b"\"");
 }

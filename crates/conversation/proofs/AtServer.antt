@@ -1,11 +1,11 @@
 -- The server takes what the peer writes, with any padding after it.
 use Prim.Native.Nat.{ℕ, ◌+◌, ◌≤◌}
 use mathlib.Core.Path.{◌≡◌, refl, sym, ap, ◌∙◌}
-use mathlib.Core.Bool.{Bool, true, false, ◌||◌}
+use mathlib.Core.Bool.{true}
 use mathlib.Core.List.{List, ◌++◌}
 use native.Mathlib.Omega.{arith}
-use lib.ListN.{length, length-append, replicate}
-use borrow.Author.Tests.{eq-eqb, ne_eqb, eqb-true}
+use lib.ListN.{length, length-append}
+use borrow.Author.Tests.{eq-eqb, ne_eqb}
 use Rattle.octets.specs.Choice.{pick}
 use Rattle.octets.proofs.Exits.{pick_true, pick_false}
 use Rattle.octets.proofs.Parts.{sized_part}
@@ -24,7 +24,6 @@ use Rattle.accounts.proofs.Lookups.{account_good_lem}
 use Rattle.mschap.specs.Users.{user_of}
 use Rattle.mschap.specs.Responses.{nt_response, authenticator_of}
 use Rattle.mschap.proofs.Responses.{length_nt_response}
-use Rattle.verdict.specs.declared.Mark.TheVariants.{Right as MarkRight}
 use Rattle.verdict.specs.declared.Verdict.{Verdict}
 use Rattle.verdict.specs.Verdict.{Right, wrong, right, judge_user, judge_of}
 use Rattle.verdict.proofs.Rightness.{judge_wrong, judge_right}
@@ -33,21 +32,9 @@ use Rattle.server.specs.declared.Server.{Server}
 use Rattle.server.specs.State.{next_id, success_to, staged}
 use Rattle.server.specs.Calls.{succeeding, failing, authentication_failure, retryable, final, due_of, act_of, nt_response_of, response_name, verdict_of, judged_by, taken_by, packet_of}
 use Rattle.server.specs.Guess.{Judged}
+use Rattle.server.proofs.Reading.{coded}
 use Rattle.server.proofs.Forward.{judges_so, confirms_so, ends_so, fail_so, taken_by_lem, confirmed, ended_so}
 use Rattle.conversation.specs.Login.{HasAccount}
-
--- a code that is not 0 has three digits
-pub code_three : (code : ℕ) → is_code code ≡ true → (code ≡ 0 → ⊥) → (100 ≤ code) × (code ≤ 999)
-unfolding is_code
-code_three code e z =
-    either _ _ e (λ h. absurd (z (eqb-true code 0 h))) (λ e1.
-    either _ _ e1 (λ h. let c = eqb-true code 646 h in (omega arith, omega arith)) (λ e2.
-    either _ _ e2 (λ h. let c = eqb-true code 647 h in (omega arith, omega arith)) (λ e3.
-    either _ _ e3 (λ h. let c = eqb-true code 648 h in (omega arith, omega arith)) (λ h. let c = eqb-true code 649 h in (omega arith, omega arith)))))
-  where
-    either : {A : Type 0} (a b : Bool) → (a || b) ≡ true → (a ≡ true → A) → (b ≡ true → A) → A
-    either true b e f g = f refl
-    either false b e f g = g e
 
 pub account_code : (table user : List ℕ) (code : ℕ) (hash : List ℕ) → well_formed table ≡ true → HasAccount table user code hash → is_code code ≡ true
 account_code table user code hash w a = ap is_code (sym a.coded) ∙ (account_good_lem table user w a.account).code
@@ -106,13 +93,13 @@ module _ (s : Server) (random name hash padding table fresh : List ℕ) (room : 
     unfolding judged_by due_of act_of pick
     response_granted z r =
         let l : length (success_to (next_id s.request.id) string) ≤ room = rw length_success_request r in
-        acts _ weighs ∙ ap (λ (n : ℕ). act_of (due_of MarkRight n s) s string fresh room) z ∙ fitting_so room s _ l
+        acts _ weighs ∙ ap (λ (n : ℕ). act_of (due_of (right n string) s) s fresh room) z ∙ fitting_so room s _ l
 
     pub response_barred : (code ≡ 0 → ⊥) → (fresh ≡ s.request.challenge → ⊥) → 60 ≤ room → packet_of s (w ++ padding) table fresh room ≡ failing s (final s code) fresh
     unfolding judged_by due_of act_of
     response_barred z d r =
-        let c = code_three code (account_code table (user_of name) code hash formed a) z in
-        acts _ weighs ∙ ap (λ x. act_of x s string fresh room) (pick_false _ _ _ (ne_eqb code 0 z)) ∙ fail_so (final s code) s fresh room d c.0 c.1 r
+        let c = coded code (account_code table (user_of name) code hash formed a) z in
+        acts _ weighs ∙ ap (λ x. act_of x s fresh room) (pick_false _ _ _ (ne_eqb code 0 z)) ∙ fail_so (final s code) s fresh room d c.0 c.1 r
 
   -- the Response is not right
   module _ (unlike : Right s.request.challenge random nt (user_of name) table → ⊥) (differs : fresh ≡ s.request.challenge → ⊥) (fits : 60 ≤ room) where
@@ -122,12 +109,12 @@ module _ (s : Server) (random name hash padding table fresh : List ℕ) (room : 
     pub response_retried : (s.retries ≡ 0 → ⊥) → packet_of s (w ++ padding) table fresh room ≡ failing s (retryable s) fresh
     unfolding judged_by due_of act_of
     response_retried z =
-        denies ∙ ap (λ x. act_of x s (replicate 20 0) fresh room) (pick_false _ _ _ (ne_eqb s.retries 0 z)) ∙ fail_so (retryable s) s fresh room differs (omega arith) (omega arith) fits
+        denies ∙ ap (λ x. act_of x s fresh room) (pick_false _ _ _ (ne_eqb s.retries 0 z)) ∙ fail_so (retryable s) s fresh room differs (omega arith) (omega arith) fits
 
     pub response_refused : s.retries ≡ 0 → packet_of s (w ++ padding) table fresh room ≡ failing s (final s authentication_failure) fresh
     unfolding judged_by due_of act_of
     response_refused z =
-        denies ∙ ap (λ x. act_of x s (replicate 20 0) fresh room) (pick_true _ _ _ (eq-eqb s.retries 0 z)) ∙ fail_so (final s authentication_failure) s fresh room differs (omega arith) (omega arith) fits
+        denies ∙ ap (λ x. act_of x s fresh room) (pick_true _ _ _ (eq-eqb s.retries 0 z)) ∙ fail_so (final s authentication_failure) s fresh room differs (omega arith) (omega arith) fits
 
 -- ---- the peer's Success Response and Failure Response
 module _ (s : Server) (padding table fresh : List ℕ) (room : ℕ) (fits : 4 ≤ room) where

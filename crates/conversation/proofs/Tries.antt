@@ -28,7 +28,8 @@ use Rattle.conversation.specs.Login.{Fits, RightAccount, challenging}
 use Rattle.conversation.specs.Tries.{Denial, WrongTry, AllWrong, last_challenge, last_credentials, AskedAgain, Reaches, last, outstanding, Rejected, exhausted, barred, TriesSucceed, TriesFail}
 use Rattle.peerlaws.proofs.Forward.{supplies_so}
 use Rattle.conversation.proofs.AtPeer.{retry_awaited, failure_replied, failure_ended}
-use Rattle.conversation.proofs.AtServer.{code_three, account_code, response_retried, response_refused, response_barred, failure_confirmed}
+use Rattle.server.proofs.Reading.{coded}
+use Rattle.conversation.proofs.AtServer.{account_code, response_retried, response_refused, response_barred, failure_confirmed}
 use Rattle.conversation.proofs.Pending.{Pending, next_new, stored_octet, answered_id, grants_so, confirms_so, closes_so, ends_so}
 use Rattle.conversation.proofs.Login.{first, begun_is, begun_pending}
 
@@ -237,7 +238,7 @@ module _ (l : Login) (ts : List Try) (b : Ends) (f : Fits l) (t : Pending b (las
       (brought
       ∙ response_refused b.server c.random c.name c.hash a.padding a.table a.fresh a.room t.named t.own t.server_here n.formed (rw same w) n.differs n.room (omega arith))
   refuses (barred code h z) =
-      fails l b c f t code (code_three code (account_code a.table (user_of c.name) code c.hash n.formed h) z).1 n.octets
+      fails l b c f t code (coded code (account_code a.table (user_of c.name) code c.hash n.formed h) z).1 n.octets
       (brought
       ∙ response_barred b.server c.random c.name c.hash a.padding a.table a.fresh a.room t.named t.own t.server_here n.formed code h z n.differs n.room)
 

@@ -6,7 +6,10 @@ use native.Mathlib.Omega.{arith}
 use mathlib.Core.Path.{◌≡◌, refl, sym, ap, ap₂, ◌∙◌, subst}
 use mathlib.Core.List.{List, ◌++◌}
 use lib.Arith.{digits_lt}
-use lib.Bits.{bit_xor, xor_lt}
+use lib.Bits.{bit_or, bit_xor, xor_lt}
+use mir.Syntax.{w64}
+use Rattle.std.specs.Int.{rotate_left}
+use Rattle.std.proofs.lemmas.Nat.{or_shifted}
 use lib.Pow.{pow_pos, pow-add, pow_mono, shr_lt, shl-shr, mod-pow-add, mod-mod-pow}
 use lib.ListN.{length, get_or, take, drop, length-append, length-drop, get_or-append}
 use lib.Seq.{length-take-le, take-append_seam, drop-append_seam, get_or-take, get_or-drop, get_or-append-add, ext_get_or}
@@ -60,12 +63,14 @@ module _ (lr : ℕ) (fits : lr < 2 ^ 64) where
   right_lt : lr % 2 ^ 32 < 2 ^ 32
   right_lt = mod-lt lr (pow_pos 32)
 
-  pub swap_fits : lr % 4294967296 * 4294967296 + lr / 4294967296 < 2 ^ 64
-  swap_fits = join_lt 32 32 (lr % 2 ^ 32) (lr / 2 ^ 32) right_lt left_lt
+  turned_half : rotate_left w64 lr 32 ≡ lr % 2 ^ 32 * 2 ^ 32 + lr / 2 ^ 32
+  turned_half =
+      let e : lr * 2 ^ 32 % 2 ^ 64 ≡ lr % 2 ^ 32 * 2 ^ 32 = omega arith in
+      ap (λ (n : ℕ). bit_or n (lr / 2 ^ 32)) e ∙ or_shifted (lr % 2 ^ 32) 32 (lr / 2 ^ 32) left_lt
 
-  pub swap_is : bits_in 64 (lr % 4294967296 * 4294967296 + lr / 4294967296) ≡ swapped (bits_in 64 lr)
+  pub swap_is : bits_in 64 (rotate_left w64 lr 32) ≡ swapped (bits_in 64 lr)
   unfolding swapped
-  swap_is = in_append 32 32 (lr % 2 ^ 32) (lr / 2 ^ 32) left_lt ∙ sym (ap₂ (λ (a b : List ℕ). a ++ b) (last_bits 32 32 lr) (first_bits 32 32 lr))
+  swap_is = ap (bits_in 64) turned_half ∙ in_append 32 32 (lr % 2 ^ 32) (lr / 2 ^ 32) left_lt ∙ sym (ap₂ (λ (a b : List ℕ). a ++ b) (last_bits 32 32 lr) (first_bits 32 32 lr))
 
   module _ (key f : ℕ) (p : Word 32 (cipher_function (bits_in 32 (lr % 4294967296)) (bits_in 48 key)) f) where
     sum_lt : bit_xor (lr / 2 ^ 32) f < 2 ^ 32
@@ -207,4 +212,4 @@ pub length_enciphered : (key block : List ℕ) → length (enciphered key block)
 unfolding enciphered
 length_enciphered key block = length_cells 8 _
 
-pub ruleset halves = (loops, swap_fits, swap_is, round_fits, round_is, rotate_is, rotate_fits, box_is, cipher_is, shift_is, round_none, round_more, round_done)
+pub ruleset halves = (loops, round_fits, round_is, rotate_is, rotate_fits, box_is, cipher_is, shift_is, round_none, round_more, round_done)

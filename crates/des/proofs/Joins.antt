@@ -3,24 +3,25 @@ use Prim.Native.Nat.{ℕ, zero, suc, ◌+◌, ◌-◌, ◌*◌, ◌/◌, ◌%◌
 use native.Mathlib.Nat.{le_of_suc-le-suc, not-suc-le-zero, lt_of_lt_of_le, add-zero, pow-suc, mul-one, mul-add}
 use native.Mathlib.Numerals.{add-one}
 use native.Mathlib.Omega.{arith}
-use mathlib.Core.Path.{◌≡◌, refl, sym, ap, ap₂, ◌∙◌}
+use mathlib.Core.Path.{◌≡◌, refl, sym, ap, ap₂, ◌∙◌, subst}
 use mathlib.Core.Bool.{true, ◌&&◌}
 use mathlib.Core.List.{List, [], ◌∷◌, ◌++◌}
 use lib.Arith.{digits_lt}
 use lib.Dec.{ltb, leb}
 use lib.Pow.{pow_pos, pow-add, pow_mono}
 use lib.ListN.{length, get_or}
+use borrow.Author.Rules.{rules}
 use borrow.Author.Tests.{ltb-true, leb-true}
 use Rattle.octets.specs.Lists.{cells, sized}
 use Rattle.octets.proofs.Lists.{sized_own}
 use Rattle.octets.proofs.Tables.{first_of, second_of}
 use Rattle.octets.proofs.Loops.{loops}
 use Rattle.des.specs.Bits.{bit_at, permuted, bit_of, bits_of}
-use Rattle.des.specs.Inner.{bits_in, Word, names}
+use Rattle.des.specs.Inner.{bits_in, Word, names, Table}
 use Rattle.des.proofs.Numbers.{in_suc}
 use Rattle.des.proofs.Words.{bit_in, in_append, octet_at_lem, parity_at, of_one, of_append}
 
--- ---- eight entries of a table: acc has the first i bits that they name
+-- ---- a table: acc has the first i bits that it names
 named_at : (n : ℕ) (table : List ℕ) (i : ℕ) → names n table ≡ true → i < length table → (0 < get_or table i 0) × (get_or table i 0 ≤ n)
 unfolding names
 named_at n [] i e h = absurd (not-suc-le-zero h)
@@ -29,45 +30,58 @@ named_at n (k ∷ table) zero e h =
     (ltb-true 0 k (first_of (ltb 0 k) (leb k n) f), leb-true k n (second_of (ltb 0 k) (leb k n) f))
 named_at n (k ∷ table) (suc i) e h = named_at n table i (second_of (ltb 0 k && leb k n) (names n table) e) (le_of_suc-le-suc h)
 
-module _ {n : ℕ} (table : List ℕ) {i : ℕ} (e : names n table ≡ true) (l : length table ≡ 8) (h : i < 8) where
-  pub named_most : get_or table i 0 ≤ n
-  named_most = (named_at n table i e (omega arith)).1
-
-  pub named_shift : n ≤ 64 → n - get_or table i 0 < 64
-  named_shift m = omega (arith, (named_at n table i e (omega arith)).0)
-
 pub record Named (n w : ℕ) (table : List ℕ) (acc i : ℕ) : Type 0 where
-  pub most : i ≤ 8
   pub bound : acc < 2 ^ i
-  pub small : 2 ^ i ≤ 256
   pub is : bits_in i acc ≡ cells i (λ j. bit_at (bits_in n w) (get_or table j 0))
 
 pub named_none : {n w : ℕ} {table : List ℕ} → Named n w table 0 0
 unfolding bits_in cells
-named_none = record { most = omega arith; bound = omega arith; small = omega arith; is = refl }
+named_none = record { bound = omega arith; is = refl }
 
-pub named_more : {n w : ℕ} {table : List ℕ} {acc i : ℕ} → Named n w table acc i → names n table ≡ true → length table ≡ 8 → i < 8 → Named n w table (acc * 2 + w / 2 ^ (n - get_or table i 0) % 2) (i + 1)
-unfolding cells
-named_more {n} {w} {table} {acc} {i} p e l h =
-    let k = get_or table i 0 in
-    let b = w / 2 ^ (n - k) % 2 in
-    let s : 2 ^ (i + 1) ≡ 2 ^ i * 2 = rw add-one (pow-suc 2 i) in
-    let at : (0 < k) × (k ≤ n) = named_at n table i e (omega arith) in
-    let q : (acc * 2 + b) / 2 ≡ acc = omega arith in
-    let r : (acc * 2 + b) % 2 ≡ b = omega arith in
-    record {
-      most = omega arith;
-      bound = omega arith;
-      small = pow_mono {j = 8} (omega arith);
-      is = rw add-one (in_suc i (acc * 2 + b) ∙ ap₂ (λ (x y : ℕ). bits_in i x ++ (y ∷ [])) q (r ∙ bit_in n w k at.0 at.1) ∙ ap (λ (x : List ℕ). x ++ (bit_at (bits_in n w) k ∷ [])) p.is);
-    }
+pub named_as : {n w : ℕ} {table : List ℕ} {acc i j : ℕ} → Named n w table acc i → i ≡ j → Named n w table acc j
+named_as {n} {w} {table} {acc} p e = subst (Named n w table acc) e p
 
-pub named_done : {n w : ℕ} {table : List ℕ} {acc i : ℕ} → Named n w table acc i → 8 ≤ i → length table ≡ 8 → bits_in 8 acc ≡ permuted table (bits_in n w)
+module _ {size n w : ℕ} {table : List ℕ} {acc i k : ℕ} (t : Table size n table) (p : Named n w table acc i) (h : i < size) (f : k ≡ get_or table i 0) where
+  at : (0 < k) × (k ≤ n)
+  at = rw f (named_at n table i t.names (omega (arith, t.long)))
+
+  pub named_most : k ≤ n
+  named_most = at.1
+
+  pub named_shift : n - k < 64
+  named_shift = omega (arith, at.0, t.most)
+
+  next_bound : acc * 2 + w / 2 ^ (n - k) % 2 < 2 ^ (i + 1)
+  next_bound =
+      let e : 2 ^ (i + 1) ≡ 2 ^ i * 2 = rw add-one (pow-suc 2 i) in
+      omega (arith, p.bound)
+
+  pub named_room : acc * 2 + w / 2 ^ (n - k) % 2 < 2 ^ 64
+  named_room = lt_of_lt_of_le next_bound (pow_mono {i = i + 1} {j = 64} (omega (arith, t.short)))
+
+  pub named_double : acc * 2 < 2 ^ 64
+  named_double = omega (arith, named_room)
+
+  pub named_more : {j : ℕ} → j ≡ i + 1 → Named n w table (acc * 2 + w / 2 ^ (n - k) % 2) j
+  unfolding cells
+  named_more e =
+      let b = w / 2 ^ (n - k) % 2 in
+      let q : (acc * 2 + b) / 2 ≡ acc = omega arith in
+      let r : (acc * 2 + b) % 2 ≡ b = omega arith in
+      named_as
+      (record {
+        bound = next_bound;
+        is = rw add-one (in_suc i (acc * 2 + b) ∙ ap₂ (λ (x y : ℕ). bits_in i x ++ (y ∷ [])) q (r ∙ bit_in n w k at.0 at.1 ∙ ap (bit_at (bits_in n w)) f) ∙ ap (λ (x : List ℕ). x ++ (bit_at (bits_in n w) (get_or table i 0) ∷ [])) p.is);
+      })
+      (sym e)
+
+pub named_done : {size n w : ℕ} {table : List ℕ} {acc i : ℕ} → Table size n table → Named n w table acc i → i ≡ size → Word size (permuted table (bits_in n w)) acc
 unfolding permuted
-named_done {n} {w} {table} {acc} {i} p h l =
-    let e : i ≡ 8 = omega arith in
-    let f : bits_in 8 acc ≡ cells 8 (λ j. bit_at (bits_in n w) (get_or table j 0)) = rw e at p.is in
-    f ∙ ap (λ (k : ℕ). cells k (λ j. bit_at (bits_in n w) (get_or table j 0))) (sym l)
+named_done {size} {n} {w} {table} {acc} {i} t p e =
+    record {
+      small = rw e at p.bound;
+      is = (rw e at p.is) ∙ ap (λ (k : ℕ). cells k (λ j. bit_at (bits_in n w) (get_or table j 0))) (sym t.long);
+    }
 
 -- ---- numbers of w bits: acc joins the first i of n
 pub record Joined (n w : ℕ) (f : ℕ → ℕ) (acc i : ℕ) : Type 0 where
@@ -147,4 +161,6 @@ fours_done {f} {acc} {i} p h =
     let e : i ≡ 8 = omega arith in
     rw e at p.is
 
-pub ruleset words = (loops, octet_at_lem, parity_at, named_none, named_more, named_done, named_most, named_shift, join_none, octet_shift, octet_room, octet_more, octets_done, four_shift, four_room, four_more, fours_done)
+pub ruleset naming = (rules, named_none, named_as, named_more, named_done, named_most, named_shift, named_room, named_double)
+
+pub ruleset words = (loops, octet_at_lem, parity_at, join_none, octet_shift, octet_room, octet_more, octets_done, four_shift, four_room, four_more, fours_done)

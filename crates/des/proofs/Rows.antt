@@ -5,7 +5,7 @@ use mathlib.Core.Path.{◌≡◌, refl, sym, ap₂, ◌∙◌, subst}
 use mathlib.Core.Bool.{Bool, true, ◌&&◌}
 use lib.Dec.{eqb, ltb, leb}
 use mathlib.Core.List.{List}
-use lib.ListN.{length, get_or, drop, length-drop}
+use lib.ListN.{get_or, drop, length-drop}
 use lib.Seq.{length-take-le}
 use borrow.Author.Tests.{eqb-true, ltb-true, leb-true}
 use Rattle.octets.specs.Choice.{pick}
@@ -42,10 +42,6 @@ lookup k h = record { is = refl; small = entry_small k h; once = each_once (k / 
 
 pub lookup_in : (s : List ℕ) (k : ℕ) → s ≡ s_table → k < 512 → LookedUp k (get_or s k 0)
 lookup_in s k e h = subst (λ (l : List ℕ). LookedUp k (get_or l k 0)) (sym e) (lookup k h)
-
-pub within : (s : List ℕ) (k : ℕ) → s ≡ s_table → k < 512 → k < length s
-unfolding s_table
-within s k e h = rw e h
 
 -- the left shifts are small
 few : ℕ → Bool

@@ -1,6 +1,6 @@
 -- Words stand for their bits: cut, joined and added.
 use Prim.Native.Nat.{ℕ, zero, suc, ◌+◌, ◌-◌, ◌*◌, ◌/◌, ◌%◌, ◌^◌, ◌<◌, ◌≤◌}
-use native.Mathlib.Nat.{le_of_suc-le-suc, not-suc-le-zero, suc_inj, pow-suc, mul-one, mul-add, mul_comm, mod-lt, mod-eq_of_lt, div-eq_of_lt, div-lt_iff_lt-mul, mul-add-div, mul-add-mod_self_left}
+use native.Mathlib.Nat.{le_of_suc-le-suc, not-suc-le-zero, suc_inj, pow-suc, mul-one, mul-add, mul_comm, mod-lt, mod-eq_of_lt, div-one, div-eq_of_lt, div-lt_iff_lt-mul, mul-add-div, mul-add-mod_self_left}
 use native.Mathlib.Omega.{arith}
 use mathlib.Core.Path.{◌≡◌, refl, sym, ap, ap₂, ◌∙◌}
 use mathlib.Core.List.{List, [], ◌∷◌, ◌++◌, append_assoc, append-nil}
@@ -8,10 +8,12 @@ use lib.Bits.{bit_xor, block_half, block_odd, xor_add_and, xor_shr}
 use lib.Pow.{pow_pos, split, shr-shr}
 use lib.ListN.{length, get_or, drop, length-append, length-drop, get_or-append}
 use lib.Seq.{length-take-le, get_or-take, get_or-drop, get_or-append-add, ext_get_or}
+use Rattle.std.specs.Int.{to_be_bytes}
+use mir.Syntax.{w64}
 use Rattle.octets.specs.Lists.{cells, part}
 use Rattle.octets.proofs.Lists.{cells_same}
-use Rattle.des.specs.Bits.{bit_at, permuted, sum_of, xored, bit_of, bits_of, number_on, group_at}
-use Rattle.des.specs.Inner.{bits_in, Word}
+use Rattle.des.specs.Bits.{bit_at, sum_of, xored, bit_of, bits_of, number_on, group_at}
+use Rattle.des.specs.Inner.{bits_in}
 use Rattle.des.specs.Keys.{with_parity, key_octet}
 use Rattle.des.proofs.Numbers.{length_in, get_or_in, in_suc, bits_number}
 
@@ -91,6 +93,13 @@ group_in m w n k x e =
 pub octet_at_lem : (w i : ℕ) → i < 8 → w / 2 ^ (56 - 8 * i) % 256 ≡ group_at 8 (bits_in 64 w) i
 octet_at_lem w i h = sym (group_in 64 8 i (56 - 8 * i) w (omega arith))
 
+pub be_octets : (w : ℕ) → to_be_bytes w64 w ≡ cells 8 (group_at 8 (bits_in 64 w))
+unfolding cells
+be_octets w =
+    let at : (i : ℕ) → i < 8 → w / 2 ^ (56 - 8 * i) % 256 ≡ group_at 8 (bits_in 64 w) i = octet_at_lem w in
+    let last : w % 256 ≡ group_at 8 (bits_in 64 w) 7 = ap (λ (x : ℕ). x % 256) (sym (div-one w)) ∙ at 7 (omega arith) in
+    λ i. at 0 (omega arith) i ∷ at 1 (omega arith) i ∷ at 2 (omega arith) i ∷ at 3 (omega arith) i ∷ at 4 (omega arith) i ∷ at 5 (omega arith) i ∷ at 6 (omega arith) i ∷ last i ∷ []
+
 seven_at : (w i : ℕ) → i < 8 → w / 2 ^ (49 - 7 * i) % 128 ≡ group_at 7 (bits_in 56 w) i
 seven_at w i h = sym (group_in 56 7 i (49 - 7 * i) w (omega arith))
 
@@ -134,21 +143,3 @@ of_append w s t some =
     (λ j h.
     ap₂ (λ (q r : ℕ). get_or (s ++ t) q 0 / 2 ^ (w - 1 - r) % 2) (mul-add-div some n j) (mul-add-mod_self_left w n j)
     ∙ ap (λ (x : ℕ). x / 2 ^ (w - 1 - j % w) % 2) (get_or-append-add s t (j / w) 0)))
-
--- ---- the rows of a table, one after the other
-pub row_on : (a : ℕ) (s t u bits : List ℕ) → bits_in 8 a ≡ permuted t bits → bits_of 8 s ≡ permuted u bits → bits_of 8 (a ∷ s) ≡ permuted (t ++ u) bits
-unfolding permuted
-row_on a s t u bits e f =
-    of_append 8 (a ∷ []) s (omega arith)
-    ∙ ap₂ (λ (x y : List ℕ). x ++ y) (of_one 8 a (omega arith) ∙ e) f
-    ∙ sym (ap (λ (k : ℕ). cells k (λ i. bit_at bits (get_or (t ++ u) i 0))) (length-append t u)
-    ∙ cells_append (length t) (length u) (λ i. bit_at bits (get_or (t ++ u) i 0))
-    ∙ ap₂ (λ (x y : List ℕ). x ++ y)
-    (cells_same (length t) (λ i. bit_at bits (get_or (t ++ u) i 0)) (λ i. bit_at bits (get_or t i 0)) (λ i h. ap (bit_at bits) (get_or-append t u 0 i h)))
-    (cells_same (length u) (λ i. bit_at bits (get_or (t ++ u) (length t + i) 0)) (λ i. bit_at bits (get_or u i 0)) (λ i h. ap (bit_at bits) (get_or-append-add t u i 0))))
-
-pub row_last : (a : ℕ) (t bits : List ℕ) → bits_in 8 a ≡ permuted t bits → bits_of 8 (a ∷ []) ≡ permuted t bits
-row_last a t bits e = of_one 8 a (omega arith) ∙ e
-
-pub rows_are : {n : ℕ} (s : List ℕ) {bits : List ℕ} {w : ℕ} → Word n (bits_of 8 s) w → bits_of 8 s ≡ bits → Word n bits w
-rows_are s p e = record { small = p.small; is = p.is ∙ e }

@@ -1,12 +1,16 @@
 -- Words turned and chosen as the code does it.
-use Rattle.std.proofs.Common.{◌≡◌, ℕ, zero, suc, ◌-◌, ◌*◌, ◌/◌, ◌%◌, ◌^◌, ◌<◌, refl, ap, pow-suc, arith}
+use Rattle.std.proofs.Common.{◌≡◌, ℕ, zero, suc, ◌-◌, ◌*◌, ◌/◌, ◌%◌, ◌^◌, ◌<◌, refl, pow-suc, arith}
 use lib.Bits.{bit_and, bit_or, bit_xor, and_shr, or_shr, xor_shr, and_mod, or_mod, xor_mod}
+use mir.Syntax.{w32}
+use Rattle.std.specs.Int.{rotate_left}
 use Rattle.digest.specs.Words.{rotl, choose}
 
-pub rotl_is : (x s : ℕ) → 0 < s → s < 32 → bit_or ((x * 2 ^ s) % 2 ^ 32) (x / 2 ^ ((32 - s) % 32)) ≡ rotl s x
+-- the method's rotation is the standards'
+pub rotl_is : (x s : ℕ) → 0 < s → s < 32 → rotate_left w32 x s ≡ rotl s x
 rotl_is x s h k =
-    let e : (32 - s) % 32 ≡ 32 - s = omega arith in
-    ap (λ (n : ℕ). bit_or ((x * 2 ^ s) % 2 ^ 32) (x / 2 ^ n)) e
+    let d : s % 32 ≡ s = omega arith in
+    let e : (32 - s % 32) % 32 ≡ 32 - s = omega arith in
+    λ i. bit_or ((x * 2 ^ d i) % 2 ^ 32) (x / 2 ^ e i)
 
 -- ---- each bit of x chooses a bit of y or z, ones being the number whose bits are all set
 abbrev Chosen : ℕ → ℕ → ℕ → ℕ → Type 0

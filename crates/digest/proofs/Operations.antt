@@ -4,10 +4,21 @@ use borrow.Author.Rules.{scaled_Fits}
 use Rattle.octets.specs.Lists.{turns}
 use Rattle.octets.proofs.Loops.{Turned, turn_done, turning}
 use Rattle.octets.proofs.Tables.{below, first_of, second_of, at_each}
-use Rattle.digest.specs.Md4.{places, shifts, operation, round}
+use mir.Syntax.{w32}
+use Rattle.std.specs.Int.{rotate_left}
+use Rattle.digest.specs.Words.{plus, rotl}
+use Rattle.digest.specs.Md4.{function, constant, places, shifts, operation, round}
+use Rattle.digest.proofs.Bits.{rotl_is}
 use Rattle.digest.specs.declared.md4_rounds.Buffer.{Buffer}
 use Rattle.digest.specs.declared.md4_rounds.Round.{Round}
 use Rattle.digest.specs.declared.md4_rounds.Round.TheVariants.{First, Second, Third}
+
+-- one operation, its parts in hand
+pub operated : (n : Round) (s x : ℕ) (r : Buffer) (f k b : ℕ) → 0 < s → s < 32 → f ≡ function n r.b r.c r.d → k ≡ constant n → b ≡ rotate_left w32 (plus (plus (plus r.a f) x) k) s → record { a = r.d; b = b; c = r.b; d = r.c } ≡ operation n s x r
+unfolding operation
+operated n s x r f k b some few e g h =
+    let sum = h ∙ rotl_is (plus (plus (plus r.a f) x) k) s some few in
+    λ i. record { a = r.d; b = (sum ∙ (λ j. rotl s (plus (plus (plus r.a (e j)) x) (g j)))) i; c = r.b; d = r.c }
 
 -- every place is one of the block's
 inside : Round → ℕ → Bool

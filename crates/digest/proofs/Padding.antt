@@ -1,12 +1,13 @@
 -- The padded message, octet by octet; its words inside the message; its blocks, one after the other.
-use Rattle.std.proofs.Common.{◌≡◌, ℕ, zero, suc, ◌+◌, ◌-◌, ◌*◌, ◌<◌, ◌≤◌, List, ◌∷◌, ◌++◌, length, get_or, replicate, sym, refl, ap, ◌∙◌, arith, length-append, get_or-append-add}
+use Rattle.std.proofs.Common.{◌≡◌, ℕ, suc, ◌+◌, ◌-◌, ◌*◌, ◌<◌, ◌≤◌, List, [], ◌∷◌, ◌++◌, length, get_or, replicate, sym, refl, ap, ◌∙◌, arith, length-append, get_or-append-add}
 use lib.ListN.{length-replicate, get_or-append}
+use Rattle.std.proofs.lemmas.List.{get_or-replicate}
 use lib.Seq.{get_or-append_seam}
-use Rattle.octets.specs.Lists.{cells, turns}
+use Rattle.octets.specs.Lists.{cells, sized, turns}
 use Rattle.octets.specs.declared.Order.{Order}
 use Rattle.octets.specs.declared.Order.TheVariants.{Little, Big}
 use Rattle.octets.proofs.Loops.{Turned, turn_done, turning}
-use Rattle.octets.proofs.Lists.{length_cells, get_or_cells}
+use Rattle.octets.proofs.Lists.{length_cells, get_or_cells, cells_same, sized_own}
 use Rattle.digest.specs.Blocks.{octet_of, word_of, block_count, padded, PaddedFills, word_at, block_at, chained}
 
 -- the message, the octet 128 and the zeros
@@ -35,16 +36,11 @@ pub padded_one : (o : Order) (m : List ℕ) (k : ℕ) → k ≡ length m → 128
 unfolding front
 padded_one o m k e = rw e (sym (in_front o m (length m) (omega arith) ∙ get_or-append_seam m 128 _ 0))
 
-zeros : (n k : ℕ) → ◌≡◌ {A = ℕ} (get_or (replicate n 0) k 0) 0
-zeros zero k = refl
-zeros (suc n) zero = refl
-zeros (suc n) (suc k) = zeros n k
-
 pub padded_zero : (o : Order) (m : List ℕ) (k b : ℕ) → b ≡ block_count (length m) → length m ≤ k → (k ≡ length m → ⊥) → k < b * 64 - 8 → 0 ≡ get_or (padded o m) k 0
 unfolding front
 padded_zero o m k b p h d l =
     let e : k ≡ length m + suc (k - length m - 1) = omega arith in
-    sym (in_front o m k (omega arith) ∙ ap (λ (j : ℕ). get_or (front m) j 0) e ∙ get_or-append-add m _ (suc (k - length m - 1)) 0 ∙ zeros (block_count (length m) * 64 - (length m + 9)) (k - length m - 1))
+    sym (in_front o m k (omega arith) ∙ ap (λ (j : ℕ). get_or (front m) j 0) e ∙ get_or-append-add m _ (suc (k - length m - 1)) 0 ∙ get_or-replicate (block_count (length m) * 64 - (length m + 9)) (k - length m - 1) 0 0 (omega arith))
 
 pub padded_length : (o : Order) (m : List ℕ) (k b x : ℕ) → b ≡ block_count (length m) → b * 64 - 8 ≤ k → k < block_count (length m) * 64 → x ≡ octet_of o 8 (length m * 8) (k - (b * 64 - 8)) → x ≡ get_or (padded o m) k 0
 unfolding padded front
@@ -63,6 +59,9 @@ inner o m k w h e =
     let s = padded_message o m (k + 3) (omega arith) in
     e ∙ (λ i. word_of o (p i) (q i) (r i) (s i))
 
+pub four_word : (o : Order) (m four : List ℕ) (k w : ℕ) → k + 4 ≤ length m → four ≡ get_or m k 0 ∷ get_or m (k + 1) 0 ∷ get_or m (k + 2) 0 ∷ get_or m (k + 3) 0 ∷ [] → w ≡ word_of o (get_or four 0 0) (get_or four 1 0) (get_or four 2 0) (get_or four 3 0) → w ≡ word_at o (padded o m) k
+four_word o m four k w h e f = inner o m k w h (f ∙ (λ i. word_of o (get_or (e i) 0 0) (get_or (e i) 1 0) (get_or (e i) 2 0) (get_or (e i) 3 0)))
+
 -- a word of zeros
 zero_octets : (o : Order) → word_of o 0 0 0 0 ≡ 0
 zero_octets Little = refl
@@ -75,7 +74,12 @@ zero_word o m k b p h l = sym (zero_octets o) ∙ (λ i. word_of o (at k (omega 
     at : (j : ℕ) → length m < j → j < b * 64 - 8 → 0 ≡ get_or (padded o m) j 0
     at j g f = padded_zero o m j b p (omega arith) (λ e. absurd (omega arith)) f
 
-pub ruleset padding = (padded_message, padded_one, padded_zero, padded_length, inner)
+pub ruleset padding = (padded_message, padded_one, padded_zero, padded_length)
+
+-- ---- a block, word by word
+pub block_done : (o : Order) (m : List ℕ) (i : ℕ) (b : List ℕ) → length b ≡ 16 → ((j : ℕ) → j < 16 → get_or b j 0 ≡ word_at o (padded o m) (i * 64 + j * 4)) → b ≡ block_at o m i
+unfolding block_at sized
+block_done o m i b e f = sym (sized_own 16 b e) ∙ cells_same 16 (λ j. get_or b j 0) (λ j. word_at o (padded o m) (i * 64 + j * 4)) f
 
 -- ---- every block was taken in
 pub chain_done : {S : Type 0} (f : List ℕ → S → S) (o : Order) (m : List ℕ) (s q : S) (n i : ℕ) → Turned n (λ k. f) (block_at o m) s q i → n ≤ i → n ≡ block_count (length m) → q ≡ chained f o m s

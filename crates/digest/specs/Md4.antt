@@ -1,13 +1,13 @@
 -- MD4 (RFC 1320).
-use Rattle.std.specs.Prelude.{ℕ, ◌%◌, List, [], ◌∷◌, length, replicate, nat_lt, slice_index}
+use Rattle.std.specs.Prelude.{ℕ, ◌%◌, List, [], ◌∷◌, length, replicate, nat_lt, slice_index, Result}
 use Rattle.octets.specs.Choice.{pick}
 use Rattle.octets.specs.Lists.{cells, turns}
 use Rattle.octets.specs.declared.Order.TheVariants.{Little}
-use Rattle.answer.specs.Answer.{number_of}
+use Rattle.answer.specs.declared.Refusal.{Refusal}
 use Rattle.answer.specs.Outcome.{Told, gives, refuses}
+use Rattle.answer.specs.Results.{told_by}
 use Rattle.digest.specs.Words.{plus, rotl, choose, majority, parity}
 use Rattle.digest.specs.Blocks.{octet_at, chained}
-use Rattle.digest.specs.declared.Md4Digest.{Md4Digest}
 use Rattle.digest.specs.declared.md4_rounds.Buffer.{Buffer}
 use Rattle.digest.specs.declared.md4_rounds.Round.{Round}
 use Rattle.digest.specs.declared.md4_rounds.Round.TheVariants.{First, Second, Third}
@@ -73,5 +73,6 @@ md4_of m = output (chained compressed Little m initial)
 unfoldable pub md4_told : List ℕ → Told (List ℕ)
 md4_told m = pick (nat_lt 65536 (length m)) (refuses 23 (replicate 16 0)) (gives (md4_of m))
 
-abbrev pub told_md4 : Md4Digest → Told (List ℕ)
-told_md4 r = record { number = number_of r.answer; n = 0; value = r.octets }
+-- what the call answers, and the octets that it hands out
+abbrev pub told_md4 : Result (List ℕ) Refusal → Told (List ℕ)
+told_md4 = told_by (λ l. l) (replicate 16 0)

@@ -1,13 +1,13 @@
 -- SHA-1 (FIPS 180-1).
-use Rattle.std.specs.Prelude.{ℕ, zero, suc, ◌+◌, ◌-◌, List, [], ◌∷◌, ◌++◌, length, replicate, bit_xor, nat_lt, slice_index}
+use Rattle.std.specs.Prelude.{ℕ, zero, suc, ◌+◌, ◌-◌, List, [], ◌∷◌, ◌++◌, length, replicate, bit_xor, nat_lt, slice_index, Result}
 use Rattle.octets.specs.Choice.{pick}
 use Rattle.octets.specs.Lists.{cells, turns}
 use Rattle.octets.specs.declared.Order.TheVariants.{Big}
-use Rattle.answer.specs.Answer.{number_of}
+use Rattle.answer.specs.declared.Refusal.{Refusal}
 use Rattle.answer.specs.Outcome.{Told, gives, refuses}
+use Rattle.answer.specs.Results.{told_by}
 use Rattle.digest.specs.Words.{plus, rotl, choose, majority, parity}
 use Rattle.digest.specs.Blocks.{octet_at, chained}
-use Rattle.digest.specs.declared.Sha1Digest.{Sha1Digest}
 use Rattle.digest.specs.declared.sha1_rounds.Buffer.{Buffer}
 
 -- 5: f(t; x, y, z)
@@ -82,5 +82,6 @@ sha1_of m = output (chained compressed Big m initial)
 unfoldable pub sha1_told : List ℕ → Told (List ℕ)
 sha1_told m = pick (nat_lt 65536 (length m)) (refuses 23 (replicate 20 0)) (gives (sha1_of m))
 
-abbrev pub told_sha1 : Sha1Digest → Told (List ℕ)
-told_sha1 r = record { number = number_of r.answer; n = 0; value = r.octets }
+-- what the call answers, and the octets that it hands out
+abbrev pub told_sha1 : Result (List ℕ) Refusal → Told (List ℕ)
+told_sha1 = told_by (λ l. l) (replicate 20 0)

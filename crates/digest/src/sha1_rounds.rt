@@ -1,12 +1,10 @@
 // The eighty rounds of SHA-1 (FIPS 180-1, 5 to 7).
 ghost use Rattle.std.specs.Prelude.{◌≡◌, ◌+◌, ◌%◌, ◌≤◌, length, drop, slice_index};
 ghost use Rattle.octets.specs.Lists.{cells, turns};
-ghost use Rattle.octets.specs.declared.Order.TheVariants.{Big};
-ghost use Rattle.digest.specs.Blocks.{chained};
-ghost use Rattle.digest.specs.Sha1.{function, constant, extended, schedule, round, rounds, compressed, initial, output, sha1_of};
+ghost use Rattle.digest.specs.Sha1.{function, constant, extended, schedule, round, rounds, compressed, output};
 
-use super::blocks::{block_count, put_block, put_octets};
-use super::words::{add, choose, majority, parity, rotl};
+use super::blocks::{Digest, octets_of};
+use super::words::{choose, majority, parity};
 use octets::Order;
 
 #[derive(Clone, Copy)]
@@ -17,6 +15,14 @@ pub struct Buffer {
     pub d: u32,
     pub e: u32,
 }
+
+pub const INITIAL: Buffer = Buffer {
+    a: 0x67452301,
+    b: 0xEFCDAB89,
+    c: 0x98BADCFE,
+    d: 0x10325476,
+    e: 0xC3D2E1F0,
+};
 
 fn function_of(t: usize, x: u32, y: u32, z: u32) -> u32
     ensures { result ≡ function t x y z }
@@ -54,11 +60,15 @@ fn round_of(t: usize, w: u32, r: Buffer) -> Buffer
 {
     let f = function_of(t, r.b, r.c, r.d);
     let k = constant_of(t);
-    let a = add(add(add(add(rotl(r.a, 5), f), r.e), w), k);
+    let turned = r.a.rotate_left(5);
     Buffer {
-        a,
+        a: turned
+            .wrapping_add(f)
+            .wrapping_add(r.e)
+            .wrapping_add(w)
+            .wrapping_add(k),
         b: r.a,
-        c: rotl(r.b, 30),
+        c: r.b.rotate_left(30),
         d: r.c,
         e: r.d,
     }
@@ -69,11 +79,8 @@ fn first_rounds(w: &[u32; 16], r: Buffer) -> Buffer
     ensures { result ≡ turns round (λ k. slice_index w.now k) r 16 }
 {
     let mut q = r;
-    let mut t = 0;
-    while t < 16 {
-        let x = w[t];
-        q = round_of(t, x, q);
-        t += 1;
+    for (t, x) in w.iter().enumerate() {
+        q = round_of(t, *x, q);
     }
     q
 }
@@ -85,16 +92,12 @@ fn next_rounds(t: usize, n: usize, w: &mut [u32; 16], r: Buffer) -> Buffer
     ensures { (length w.new ≡ 16) × (cells 16 (λ k. slice_index w.new ((t + n + k) % 16)) ≡ drop n (extended (cells 16 (λ k. slice_index w.old ((t + k) % 16))) n)) × (result ≡ turns (λ k. round (t + k)) (λ k. slice_index (extended (cells 16 (λ k. slice_index w.old ((t + k) % 16))) n) (16 + k)) r n) }
 {
     let mut q = r;
-    let mut k = 0;
-    while k < n {
+    for k in 0..n {
         let i = t + k;
-        let x = rotl(
-            w[(i + 13) % 16] ^ w[(i + 8) % 16] ^ w[(i + 2) % 16] ^ w[i % 16],
-            1,
-        );
+        let mixed = w[(i + 13) % 16] ^ w[(i + 8) % 16] ^ w[(i + 2) % 16] ^ w[i % 16];
+        let x = mixed.rotate_left(1);
         w[i % 16] = x;
         q = round_of(i, x, q);
-        k += 1;
     }
     q
 }
@@ -114,56 +117,24 @@ fn rounds_of(mut w: [u32; 16], r: Buffer) -> Buffer
     next_rounds(70, 10, &mut w, g)
 }
 
-// The buffer after one block more.
-fn compress(block: [u32; 16], r: Buffer) -> Buffer
-    ensures { result ≡ compressed block r }
-{
-    let q = rounds_of(block, r);
-    Buffer {
-        a: add(r.a, q.a),
-        b: add(r.b, q.b),
-        c: add(r.c, q.c),
-        d: add(r.d, q.d),
-        e: add(r.e, q.e),
+impl Digest<20> for Buffer {
+    ghost compressed = { compressed };
+
+    ghost output = { output };
+
+    // The sum by name, as in MD4.
+    fn compress(self, block: &[u32; 16]) -> Buffer {
+        let q = rounds_of(*block, self);
+        Buffer {
+            a: self.a.wrapping_add(q.a),
+            b: self.b.wrapping_add(q.b),
+            c: self.c.wrapping_add(q.c),
+            d: self.d.wrapping_add(q.d),
+            e: self.e.wrapping_add(q.e),
+        }
     }
-}
 
-// The buffer after all blocks.
-fn chain(m: &[u8]) -> Buffer
-    requires { length m.now ≤ 65536 }
-    ensures { result ≡ chained compressed Big m.now initial }
-{
-    let n = block_count(m.len());
-    let mut q = Buffer {
-        a: 0x67452301,
-        b: 0xEFCDAB89,
-        c: 0x98BADCFE,
-        d: 0x10325476,
-        e: 0xC3D2E1F0,
-    };
-    let mut i = 0;
-    while i < n {
-        let mut block = [0u32; 16];
-        put_block(Order::Big, m, i, &mut block);
-        q = compress(block, q);
-        i += 1;
+    fn output(self) -> [u8; 20] {
+        octets_of(Order::Big, &[self.a, self.b, self.c, self.d, self.e])
     }
-    q
-}
-
-// The twenty octets of the buffer.
-fn output_of(r: Buffer) -> [u8; 20]
-    ensures { result ≡ output r }
-{
-    let words = [r.a, r.b, r.c, r.d, r.e];
-    let mut out = [0u8; 20];
-    put_octets(Order::Big, &words, &mut out);
-    out
-}
-
-pub(crate) fn digest(m: &[u8]) -> [u8; 20]
-    requires { length m.now ≤ 65536 }
-    ensures { result ≡ sha1_of m.now }
-{
-    output_of(chain(m))
 }

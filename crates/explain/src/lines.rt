@@ -1,7 +1,5 @@
 // A line for each packet, and its fields.
-ghost use Rattle.std.specs.Prelude.{◌≤◌};
-
-use hexline::Parsed;
+use hexline::HexError;
 use packet::End;
 
 fn begin(number: usize) {
@@ -31,39 +29,29 @@ fn packet(end: End, number: usize, p: &[u8]) {
     describe::reading(end, p);
 }
 
-// Explains a line: 1 where it could not be read, and else 0.
-fn line(end: End, number: usize, s: &[u8]) -> usize
-    ensures { result ≤ 1 }
-{
+// Explains a line; whether it could be read.
+fn line(end: End, number: usize, s: &[u8]) -> bool {
     let mut space = io::large_buffer();
-    let parsed = hexline::octets_of(s, &mut space);
-    match parsed {
-        Parsed::Octets(n) => {
-            packet(end, number, octets::part(&space, 0, n));
-            0
-        }
-        Parsed::BadAt(place) => {
+    match hexline::octets_of(s, &mut space) {
+        Ok(n) => packet(end, number, octets::part(&space, 0, n)),
+        Err(HexError::BadAt(place)) => {
             bad(number, place);
-            1
+            return false;
         }
-        Parsed::TooMany => {
+        Err(HexError::TooMany) => {
             many(number);
-            1
+            return false;
         }
     }
+    true
 }
 
 pub(crate) fn explain(end: End, text: &[u8]) {
-    let mut unread = 0;
-    let mut number = 0;
-    let mut at = 0;
-    while at < text.len() {
-        let s = roster::field_before(octets::rest(text, at), 10);
-        number += 1;
-        unread += line(end, number, s);
-        at = at + s.len() + 1;
+    let mut read = true;
+    for (i, s) in text.split(|x| *x == b'\n').enumerate() {
+        read &= line(end, i + 1, s);
     }
-    if unread == 0 {
+    if read {
         console::ended_well();
         return;
     }

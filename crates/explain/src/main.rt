@@ -1,7 +1,7 @@
 // Explains packets that are given as lines of hex octets.
 #![tactic(auto)]
 
-use console::File;
+use console::ReadError;
 use packet::End;
 use std::env::Env;
 use std::io::Input;
@@ -42,23 +42,6 @@ explain server [FILE]
     console::ended_well();
 }
 
-// Whether the first argument is this word.
-fn is_word<R: Env>(rt: &R, word: &[u8]) -> bool {
-    let mut text = [0u8; 8];
-    let n = console::arg(rt, 1, &mut text).unwrap_or(0);
-    octets::equal(octets::part(&text, 0, n), word)
-}
-
-fn is_help<R: Env>(rt: &R) -> bool {
-    if is_word(rt, b"help") {
-        return true;
-    }
-    if is_word(rt, b"--help") {
-        return true;
-    }
-    is_word(rt, b"-h")
-}
-
 // A text that fills its buffer may not be whole.
 fn text(end: End, s: &[u8]) {
     if s.len() == 262144 {
@@ -69,10 +52,10 @@ fn text(end: End, s: &[u8]) {
     lines::explain(end, s);
 }
 
-fn read(end: End, file: File, s: &[u8]) {
+fn read(end: End, file: Result<usize, ReadError>, s: &[u8]) {
     match file {
-        File::Read(n) => text(end, octets::part(s, 0, n)),
-        _ => console::ended_badly(b"nothing was explained"),
+        Ok(n) => text(end, octets::part(s, 0, n)),
+        Err(_) => console::ended_badly(b"nothing was explained"),
     }
 }
 
@@ -95,15 +78,11 @@ fn file<R: Env + Files>(rt: &R, end: End) {
 }
 
 fn with_end<R: Env + Files + Input>(rt: &R, end: End, count: usize) {
-    if count < 3 {
-        input(rt, end);
-        return;
+    match count {
+        0..=2 => input(rt, end),
+        3 => file(rt, end),
+        _ => complain(b"there are too many arguments"),
     }
-    if 3 < count {
-        complain(b"there are too many arguments");
-        return;
-    }
-    file(rt, end);
 }
 
 fn main(rt: HostRuntime) {
@@ -112,17 +91,12 @@ fn main(rt: HostRuntime) {
         input(&rt, End::Peer);
         return;
     }
-    if is_help(&rt) {
-        help();
-        return;
+    let mut word = [0u8; 8];
+    let n = console::arg(&rt, 1, &mut word).unwrap_or(0);
+    match &word[..n] {
+        b"help" | b"--help" | b"-h" => help(),
+        b"peer" => with_end(&rt, End::Peer, count),
+        b"server" => with_end(&rt, End::Server, count),
+        _ => complain(b"peer or server is missing"),
     }
-    if is_word(&rt, b"peer") {
-        with_end(&rt, End::Peer, count);
-        return;
-    }
-    if is_word(&rt, b"server") {
-        with_end(&rt, End::Server, count);
-        return;
-    }
-    complain(b"peer or server is missing");
 }

@@ -1,193 +1,318 @@
-// What is wrong with a packet: the first condition of document 01, "What a call answers", that it breaks, in detail.
+// What is wrong with a packet: the first condition of document 01, "What a call answers", that it breaks, in detail. By tests of its own and
+// not the reader's: the reader stays as fast as it is, and `FaultsExact` ties the two.
 #![tactic(auto)]
 
-ghost use Rattle.std.specs.Prelude.{◌≡◌, ◌≤◌, length};
-ghost use Rattle.answer.specs.Sizes.{max_packet};
+ghost use Rattle.std.specs.Prelude.{◌≡◌, ℕ, MatchResult};
 ghost use Rattle.packet.specs.Frame.{with_type};
 ghost use Rattle.packet.specs.Reader.{code_for};
-ghost use Rattle.faults.specs.Faults.{challenge_fault, response_fault, success_fault, rest_fault, message_fault, failure_fault, bare_fault, chap_fault, request_fault, reply_fault, typed_fault, code_fault, fault_of};
+ghost use Rattle.faults.specs.Numbers.{challenge_number, response_number, success_number, failure_number, fault_number, found};
+ghost use Rattle.faults.specs.Faults.{challenge_fault, response_fault, success_fault, failure_fault, bare_fault, chap_fault, request_fault, reply_fault, typed_fault, code_fault, fault_of};
 
 use octets::Order;
-use packet::End;
+use packet::{End, ensure};
+use std::fmt;
 
-fn challenge_fault(q: &[u8]) -> u16
-    ensures { result ≡ challenge_fault q.now }
-{
-    if q.len() <= packet::CHALLENGE_NAME_AT {
-        return 1710;
-    }
-    if !octets::octet_is(q, 9, 16) {
-        return 1711;
-    }
-    0
+// Of a Challenge.
+#[derive(Clone, Copy, PartialEq, Eq)]
+pub enum ChallengeFault {
+    NoName,
+    ValueSize,
 }
 
-#[tactic(auto, using(octets::proofs::Exits::exits), unfolding(crate::specs::Faults::response_fault))]
-fn response_fault(q: &[u8]) -> u16
-    ensures { result ≡ response_fault q.now }
-{
-    if q.len() < packet::RESPONSE_NAME_AT {
-        return 1720;
-    }
-    if packet::MAX_RESPONSE < q.len() {
-        return 1721;
-    }
-    if !octets::octet_is(q, 9, 49) {
-        return 1722;
-    }
-    if !octets::stands_at(q, 26, &[0, 0, 0, 0, 0, 0, 0, 0]) {
-        return 1723;
-    }
-    if !octets::octet_is(q, 58, 0) {
-        return 1724;
-    }
-    0
+// Of a Response.
+#[derive(Clone, Copy, PartialEq, Eq)]
+pub enum ResponseFault {
+    TooShort,
+    LongName,
+    ValueSize,
+    Zeros,
+    Flags,
 }
 
-fn success_fault(q: &[u8]) -> u16
-    ensures { result ≡ success_fault q.now }
-{
-    if !octets::stands_at(q, 9, b"S=") {
-        return 1730;
-    }
-    if !octets::hex_stands(false, q, 11, 40) {
-        return 1731;
-    }
-    if q.len() == packet::SUCCESS_TAIL_AT {
-        return 0;
-    }
-    if !octets::stands_at(q, packet::SUCCESS_TAIL_AT, b" M=") {
-        return 1732;
-    }
-    0
+// Of a Success message: no `S=`, not 40 digits, and neither an end nor ` M=` after them.
+#[derive(Clone, Copy, PartialEq, Eq)]
+pub enum SuccessFault {
+    Start,
+    Digits,
+    Tail,
 }
 
-// A Failure Request with e digits of E and v of V, from C on.
-fn rest_fault(q: &[u8], e: usize, v: usize) -> u16
-    requires { (e ≤ max_packet) × (v ≤ max_packet) }
-    ensures { result ≡ rest_fault q.now e v }
-{
-    if !octets::stands_at(q, 15 + e, b" C=") {
-        return 1744;
-    }
-    if !octets::hex_stands(true, q, 18 + e, 32) {
-        return 1745;
-    }
-    if !octets::stands_at(q, 50 + e, b" V=") {
-        return 1746;
-    }
-    if !packet::is_version(q, 53 + e, v) {
-        return 1747;
-    }
-    if !octets::stands_at(q, 53 + e + v, b" M=") {
-        return 1748;
-    }
-    0
+// Of a Failure message: the six words, and what stands after the first four.
+#[derive(Clone, Copy, PartialEq, Eq)]
+pub enum FailureFault {
+    Start,
+    Error,
+    NoRetry,
+    Retry,
+    NoChallenge,
+    Challenge,
+    NoVersion,
+    Version,
+    NoText,
 }
 
-// The same from E on.
-fn message_fault(q: &[u8], e: usize, v: usize) -> u16
-    requires { (e ≤ max_packet) × (v ≤ max_packet) }
-    ensures { result ≡ message_fault q.now e v }
-{
-    if !octets::stands_at(q, 9, b"E=") {
-        return 1740;
-    }
-    if !packet::few_digits(e) {
-        return 1741;
-    }
-    if !octets::stands_at(q, 11 + e, b" R=") {
-        return 1742;
-    }
-    if !packet::is_bit(q, 14 + e) {
-        return 1743;
-    }
-    rest_fault(q, e, v)
+// In the order of the numbers of document 01.
+#[derive(Clone, Copy, PartialEq, Eq)]
+pub enum Fault {
+    FewerThanFour,
+    LengthUnderFour,
+    LengthOverLent,
+    LengthOverMost,
+    Code,
+    NoType,
+    OtherType,
+    NoOpCode,
+    OtherOpCode,
+    LengthUnderNine,
+    MsLength,
+    EapLength,
+    ResponseLength,
+    Challenge(ChallengeFault),
+    Response(ResponseFault),
+    Success(SuccessFault),
+    Failure(FailureFault),
 }
 
-fn failure_fault(q: &[u8]) -> u16
-    requires { length q.now ≤ max_packet }
-    ensures { result ≡ failure_fault q.now }
-{
-    let e = octets::digits_of(octets::rest(q, 11));
-    let v = octets::digits_of(octets::rest(q, 53 + e));
-    message_fault(q, e, v)
+impl From<ChallengeFault> for u16 {
+    ghost from_gives = { λ fault n. n ≡ challenge_number fault };
+
+    fn from(fault: ChallengeFault) -> u16 {
+        match fault {
+            ChallengeFault::NoName => 1710,
+            ChallengeFault::ValueSize => 1711,
+        }
+    }
 }
+
+impl From<ResponseFault> for u16 {
+    ghost from_gives = { λ fault n. n ≡ response_number fault };
+
+    fn from(fault: ResponseFault) -> u16 {
+        match fault {
+            ResponseFault::TooShort => 1720,
+            ResponseFault::LongName => 1721,
+            ResponseFault::ValueSize => 1722,
+            ResponseFault::Zeros => 1723,
+            ResponseFault::Flags => 1724,
+        }
+    }
+}
+
+impl From<SuccessFault> for u16 {
+    ghost from_gives = { λ fault n. n ≡ success_number fault };
+
+    fn from(fault: SuccessFault) -> u16 {
+        match fault {
+            SuccessFault::Start => 1730,
+            SuccessFault::Digits => 1731,
+            SuccessFault::Tail => 1732,
+        }
+    }
+}
+
+impl From<FailureFault> for u16 {
+    ghost from_gives = { λ fault n. n ≡ failure_number fault };
+
+    fn from(fault: FailureFault) -> u16 {
+        match fault {
+            FailureFault::Start => 1740,
+            FailureFault::Error => 1741,
+            FailureFault::NoRetry => 1742,
+            FailureFault::Retry => 1743,
+            FailureFault::NoChallenge => 1744,
+            FailureFault::Challenge => 1745,
+            FailureFault::NoVersion => 1746,
+            FailureFault::Version => 1747,
+            FailureFault::NoText => 1748,
+        }
+    }
+}
+
+// 100 times the refusal's number, and two digits for the part of its condition.
+impl From<Fault> for u16 {
+    ghost from_gives = { λ fault n. n ≡ fault_number fault };
+
+    fn from(fault: Fault) -> u16 {
+        match fault {
+            Fault::FewerThanFour => 1000,
+            Fault::LengthUnderFour => 1100,
+            Fault::LengthOverLent => 1101,
+            Fault::LengthOverMost => 1200,
+            Fault::Code => 1300,
+            Fault::NoType => 1400,
+            Fault::OtherType => 1401,
+            Fault::NoOpCode => 1500,
+            Fault::OtherOpCode => 1501,
+            Fault::LengthUnderNine => 1600,
+            Fault::MsLength => 1601,
+            Fault::EapLength => 1700,
+            Fault::ResponseLength => 1701,
+            Fault::Challenge(form) => u16::from(form),
+            Fault::Response(form) => u16::from(form),
+            Fault::Success(form) => u16::from(form),
+            Fault::Failure(form) => u16::from(form),
+        }
+    }
+}
+
+// The condition that is broken, in document 01's words.
+impl fmt::Display for Fault {
+    fn fmt<W: fmt::Write>(&self, f: &mut fmt::Formatter<W>) -> fmt::Result {
+        f.write_str(match self {
+            Fault::FewerThanFour => "fewer than 4 octets lent",
+            Fault::LengthUnderFour | Fault::LengthOverLent => "L under 4 or over the octets lent",
+            Fault::LengthOverMost => "L over 1,020",
+            Fault::Code => "Code not for this end",
+            Fault::NoType | Fault::OtherType => "Code 1 or 2 and no Type octet, or Type not 26",
+            Fault::NoOpCode | Fault::OtherOpCode => {
+                "no OpCode, or not one of the table for that Code"
+            }
+            Fault::LengthUnderNine | Fault::MsLength => "L under 9, or MS-Length not L - 5",
+            Fault::EapLength
+            | Fault::ResponseLength
+            | Fault::Challenge(_)
+            | Fault::Response(_)
+            | Fault::Success(_)
+            | Fault::Failure(_) => "the rest breaks its form",
+        })
+    }
+}
+
+// ---- 17. q is a packet, cut at L
+
+#[tactic(auto, using(crate::proofs::Checks::checks), unfolding(crate::specs::Faults::challenge_fault))]
+fn challenge(q: &[u8]) -> Result<(), ChallengeFault>
+    ensures { found challenge_number result ≡ challenge_fault q.now }
+{
+    ensure(packet::CHALLENGE_NAME_AT < q.len(), ChallengeFault::NoName)?;
+    ensure(octets::octet_is(q, 9, 16), ChallengeFault::ValueSize)
+}
+
+#[tactic(auto, using(crate::proofs::Checks::checks), unfolding(crate::specs::Faults::response_fault))]
+fn response(q: &[u8]) -> Result<(), ResponseFault>
+    ensures { found response_number result ≡ response_fault q.now }
+{
+    ensure(packet::RESPONSE_NAME_AT <= q.len(), ResponseFault::TooShort)?;
+    ensure(q.len() <= packet::MAX_RESPONSE, ResponseFault::LongName)?;
+    ensure(octets::octet_is(q, 9, 49), ResponseFault::ValueSize)?;
+    ensure(octets::stands_at(q, 26, &[0; 8]), ResponseFault::Zeros)?;
+    ensure(octets::octet_is(q, 58, 0), ResponseFault::Flags)
+}
+
+#[tactic(auto, using(crate::proofs::Checks::checks), unfolding(crate::specs::Faults::success_fault))]
+fn success(q: &[u8]) -> Result<(), SuccessFault>
+    ensures { found success_number result ≡ success_fault q.now }
+{
+    ensure(octets::stands_at(q, 9, b"S="), SuccessFault::Start)?;
+    ensure(octets::hex_stands(false, q, 11, 40), SuccessFault::Digits)?;
+    ensure(
+        q.len() == packet::SUCCESS_TAIL_AT || octets::stands_at(q, packet::SUCCESS_TAIL_AT, b" M="),
+        SuccessFault::Tail,
+    )
+}
+
+#[tactic(auto, using(crate::proofs::Checks::checks), unfolding(crate::specs::Faults::failure_fault, crate::specs::Faults::message_fault, crate::specs::Faults::rest_fault))]
+fn failure(q: &[u8]) -> Result<(), FailureFault>
+    ensures { found failure_number result ≡ failure_fault q.now }
+{
+    ensure(octets::stands_at(q, 9, b"E="), FailureFault::Start)?;
+    let e = packet::digits_at(q, 11);
+    ensure(packet::few_digits(e), FailureFault::Error)?;
+    ensure(octets::stands_at(q, 11 + e, b" R="), FailureFault::NoRetry)?;
+    ensure(packet::is_bit(q, 14 + e), FailureFault::Retry)?;
+    ensure(
+        octets::stands_at(q, 15 + e, b" C="),
+        FailureFault::NoChallenge,
+    )?;
+    ensure(
+        octets::hex_stands(true, q, 18 + e, 32),
+        FailureFault::Challenge,
+    )?;
+    ensure(
+        octets::stands_at(q, 50 + e, b" V="),
+        FailureFault::NoVersion,
+    )?;
+    let v = packet::digits_at(q, 53 + e);
+    ensure(packet::is_version(q, 53 + e, v), FailureFault::Version)?;
+    ensure(
+        octets::stands_at(q, 53 + e + v, b" M="),
+        FailureFault::NoText,
+    )
+}
+
+// ---- 16
+
+// MS-Length is L - 5.
+#[tactic(auto, using(crate::proofs::Checks::checks), unfolding(crate::specs::Faults::chap_fault))]
+fn ms_length(q: &[u8]) -> Result<(), Fault>
+    ensures { (form : ℕ) → MatchResult result (λ _. chap_fault q.now form ≡ form) (λ why. chap_fault q.now form ≡ fault_number why) }
+{
+    ensure(9 <= q.len(), Fault::LengthUnderNine)?;
+    ensure(
+        octets::number_at(Order::Big, q, 7) == q.len() - 5,
+        Fault::MsLength,
+    )
+}
+
+// ---- 13 to 15
 
 // A packet with nothing after its OpCode, or with no OpCode, is of l octets.
-fn bare_fault(q: &[u8], l: usize, fault: u16) -> u16
-    ensures { result ≡ bare_fault q.now l fault }
+#[tactic(auto, using(crate::proofs::Checks::checks), unfolding(crate::specs::Faults::bare_fault))]
+fn bare(q: &[u8], l: usize, fault: Fault) -> Result<(), Fault>
+    ensures { found fault_number result ≡ bare_fault q.now l (fault_number fault) }
 {
-    if q.len() != l {
-        return fault;
-    }
-    0
+    ensure(q.len() == l, fault)
 }
 
-// A packet with an MS-CHAPv2-ID, whose form has this fault.
-fn chap_fault(q: &[u8], form: u16) -> u16
-    ensures { result ≡ chap_fault q.now form }
+#[tactic(auto, using(crate::proofs::Checks::checks), unfolding(crate::specs::Faults::request_fault))]
+fn request(op: u8, q: &[u8]) -> Result<(), Fault>
+    ensures { found fault_number result ≡ request_fault op q.now }
 {
-    if q.len() < 9 {
-        return 1600;
+    match op {
+        1 => {
+            ms_length(q)?;
+            challenge(q).map_err(Fault::Challenge)
+        }
+        3 => {
+            ms_length(q)?;
+            success(q).map_err(Fault::Success)
+        }
+        4 => {
+            ms_length(q)?;
+            failure(q).map_err(Fault::Failure)
+        }
+        _ => Err(Fault::OtherOpCode),
     }
-    let m = octets::number_at(Order::Big, q, 7);
-    if m != q.len() - 5 {
-        return 1601;
-    }
-    form
 }
 
-fn request_fault(op: u8, q: &[u8]) -> u16
-    requires { length q.now ≤ max_packet }
-    ensures { result ≡ request_fault op q.now }
+#[tactic(auto, using(crate::proofs::Checks::checks), unfolding(crate::specs::Faults::reply_fault))]
+fn reply(op: u8, q: &[u8]) -> Result<(), Fault>
+    ensures { found fault_number result ≡ reply_fault op q.now }
 {
-    if op == 1 {
-        return chap_fault(q, challenge_fault(q));
+    match op {
+        2 => {
+            ms_length(q)?;
+            response(q).map_err(Fault::Response)
+        }
+        3 | 4 => bare(q, 6, Fault::ResponseLength),
+        _ => Err(Fault::OtherOpCode),
     }
-    if op == 3 {
-        return chap_fault(q, success_fault(q));
-    }
-    if op == 4 {
-        return chap_fault(q, failure_fault(q));
-    }
-    1501
-}
-
-fn reply_fault(op: u8, q: &[u8]) -> u16
-    ensures { result ≡ reply_fault op q.now }
-{
-    if op == 2 {
-        return chap_fault(q, response_fault(q));
-    }
-    if op == 3 {
-        return bare_fault(q, 6, 1701);
-    }
-    if op == 4 {
-        return bare_fault(q, 6, 1701);
-    }
-    1501
 }
 
 // A packet with Code 1 or 2.
-fn typed_fault(code: u8, q: &[u8]) -> u16
-    requires { length q.now ≤ max_packet }
-    ensures { result ≡ typed_fault code q.now }
+#[tactic(auto, using(crate::proofs::Checks::checks), unfolding(crate::specs::Faults::typed_fault))]
+fn typed(code: u8, q: &[u8]) -> Result<(), Fault>
+    ensures { found fault_number result ≡ typed_fault code q.now }
 {
-    if q.len() < 5 {
-        return 1400;
-    }
-    if !octets::octet_is(q, 4, 26) {
-        return 1401;
-    }
-    if q.len() < 6 {
-        return 1500;
-    }
+    ensure(5 <= q.len(), Fault::NoType)?;
+    ensure(octets::octet_is(q, 4, 26), Fault::OtherType)?;
+    ensure(6 <= q.len(), Fault::NoOpCode)?;
     let op = octets::octet(q, 5);
     if code == 1 {
-        return request_fault(op, q);
+        request(op, q)
+    } else {
+        reply(op, q)
     }
-    reply_fault(op, q)
 }
 
 // Whether a packet with this Code is for this end.
@@ -195,15 +320,7 @@ fn code_for(end: End, code: u8) -> bool
     ensures { result ≡ code_for end code }
 {
     match end {
-        End::Peer => {
-            if code == 1 {
-                return true;
-            }
-            if code == 3 {
-                return true;
-            }
-            code == 4
-        }
+        End::Peer => matches!(code, 1 | 3 | 4),
         End::Server => code == 2,
     }
 }
@@ -212,43 +329,32 @@ fn code_for(end: End, code: u8) -> bool
 fn with_type(code: u8) -> bool
     ensures { result ≡ with_type code }
 {
-    if code == 1 {
-        return true;
-    }
-    code == 2
+    matches!(code, 1 | 2)
 }
 
 // A packet cut at L.
-fn code_fault(end: End, code: u8, q: &[u8]) -> u16
-    requires { length q.now ≤ max_packet }
-    ensures { result ≡ code_fault end code q.now }
+#[tactic(auto, using(crate::proofs::Checks::checks), unfolding(crate::specs::Faults::code_fault))]
+fn cut(end: End, code: u8, q: &[u8]) -> Result<(), Fault>
+    ensures { found fault_number result ≡ code_fault end code q.now }
 {
-    if !code_for(end, code) {
-        return 1300;
+    ensure(code_for(end, code), Fault::Code)?;
+    if with_type(code) {
+        typed(code, q)
+    } else {
+        bare(q, 4, Fault::EapLength)
     }
-    if !with_type(code) {
-        return bare_fault(q, 4, 1700);
-    }
-    typed_fault(code, q)
 }
 
-// The fault of a packet for an end, 0 where it is read. Octets after L are not looked at.
-pub fn fault_of(end: End, p: &[u8]) -> u16
-    ensures { result ≡ fault_of end p.now }
+// What is wrong with a packet for an end, and nothing where it is read. Octets after L are not looked at.
+#[tactic(auto, using(crate::proofs::Checks::checks), unfolding(crate::specs::Faults::fault_of))]
+pub fn fault_of(end: End, p: &[u8]) -> Result<(), Fault>
+    ensures { found fault_number result ≡ fault_of end p.now }
 {
-    if p.len() < 4 {
-        return 1000;
-    }
+    ensure(4 <= p.len(), Fault::FewerThanFour)?;
     let l = octets::number_at(Order::Big, p, 2);
-    if l < 4 {
-        return 1100;
-    }
-    if p.len() < l {
-        return 1101;
-    }
-    if answer::MAX_PACKET < l {
-        return 1200;
-    }
+    ensure(4 <= l, Fault::LengthUnderFour)?;
+    ensure(l <= p.len(), Fault::LengthOverLent)?;
+    ensure(l <= answer::MAX_PACKET, Fault::LengthOverMost)?;
     let q = octets::part(p, 0, l);
-    code_fault(end, octets::octet(q, 0), q)
+    cut(end, octets::octet(q, 0), q)
 }

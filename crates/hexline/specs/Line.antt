@@ -1,11 +1,11 @@
 -- A line of text as octets. It is pieces end to end: an octet, which is two hex digits of either case; an octet with `0x` or `0X`
 -- directly before it; a blank (space, tab, carriage return) or a colon.
-use Rattle.std.specs.Prelude.{ℕ, zero, suc, ◌-◌, List, [], ◌∷◌, ◌++◌, Bool, true, ◌&&◌, ◌||◌, length, get_or, drop, ltb, eqb}
+use Rattle.std.specs.Prelude.{ℕ, zero, suc, ◌-◌, List, [], ◌∷◌, ◌++◌, Bool, true, ◌&&◌, ◌||◌, length, get_or, drop, ltb, eqb, Result, Ok, Err}
 use Rattle.octets.specs.Choice.{pick}
 use Rattle.octets.specs.Lists.{over}
 use Rattle.octets.specs.Octets.{stands_at, hex_stands, unhex_at}
-use Rattle.hexline.specs.declared.Parsed.{Parsed}
-use Rattle.hexline.specs.declared.Parsed.TheVariants.{Octets, BadAt, TooMany}
+use Rattle.hexline.specs.declared.HexError.{HexError}
+use Rattle.hexline.specs.declared.HexError.TheVariants.{BadAt, TooMany}
 
 -- ---- the piece at the front of a line
 -- space, tab, carriage return, colon
@@ -44,13 +44,12 @@ place_from zero (x ∷ xs) = pick (is_piece (x ∷ xs)) (suc (place_from (size_o
 abbrev pub octets_of : List ℕ → List ℕ
 octets_of line = octets_from 0 line
 
-unfoldable pub parsed_of : ℕ → List ℕ → Parsed
+unfoldable pub parsed_of : ℕ → List ℕ → Result ℕ HexError
 parsed_of room line =
-    pick (ltb (place_from 0 line) (length line)) (BadAt (place_from 0 line))
-    (pick (ltb room (length (octets_of line))) TooMany
-    (Octets (length (octets_of line))))
+    pick (ltb (place_from 0 line) (length line)) (Err (BadAt (place_from 0 line)))
+    (pick (ltb room (length (octets_of line))) (Err TooMany)
+    (Ok (length (octets_of line))))
 
-abbrev pub left : Parsed → List ℕ → List ℕ → List ℕ
-left (Octets n) line out = over (octets_of line) out
-left (BadAt place) line out = out
-left TooMany line out = out
+abbrev pub left : Result ℕ HexError → List ℕ → List ℕ → List ℕ
+left (Ok n) line out = over (octets_of line) out
+left (Err why) line out = out

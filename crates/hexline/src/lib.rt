@@ -1,128 +1,102 @@
 // A line of text as octets.
 #![tactic(auto)]
 
-ghost use Rattle.std.specs.Prelude.{◌≡◌, ◌<◌, ◌≤◌, length};
-ghost use Rattle.octets.specs.Lists.{over, Appended};
-ghost use Rattle.hexline.specs.Line.{is_gap, has_mark, size_of, is_piece, octet_in, octets_of, place_from, parsed_of, left};
-ghost use Rattle.hexline.specs.Inner.{Next};
+ghost use Rattle.std.specs.Prelude.{◌≡◌, ◌<◌, ◌≤◌, length, MatchOption};
+ghost use Rattle.std.specs.Iterator.{YieldsFirstRef, item_count};
+ghost use Rattle.octets.specs.Lists.{over};
+ghost use Rattle.hexline.specs.Line.{is_gap, has_mark, size_of, is_piece, octets_of, place_from, parsed_of, left};
+ghost use Rattle.hexline.specs.Inner.{octet_of, pieces_of, Unread};
 
-// So many octets; or the place of the first character that will not do, counted from 0; or more octets than there is room for.
-#[derive(Clone, Copy)]
-pub enum Parsed {
-    Octets(usize),
+// The place of the first character that will not do, counted from 0; or more octets than there is room for.
+#[derive(Clone, Copy, PartialEq, Eq)]
+pub enum HexError {
     BadAt(usize),
     TooMany,
 }
 
 // ---- the piece at the front of a line
 
+#[tactic(auto, using(octets::proofs::Exits::wide), unfolding(crate::specs::Line::is_gap))]
 fn is_gap(x: u8) -> bool
     ensures { result ≡ is_gap x }
 {
-    if x == 32 {
-        return true;
-    }
-    if x == 9 {
-        return true;
-    }
-    if x == 13 {
-        return true;
-    }
-    x == 58
+    matches!(x, b' ' | b'\t' | b'\r' | b':')
 }
 
+#[tactic(auto, using(octets::proofs::Exits::exits), unfolding(crate::specs::Line::has_mark))]
 fn has_mark(s: &[u8]) -> bool
     ensures { result ≡ has_mark s.now }
 {
-    if octets::stands_at(s, 0, b"0x") {
-        return true;
-    }
-    octets::stands_at(s, 0, b"0X")
+    octets::stands_at(s, 0, b"0x") || octets::stands_at(s, 0, b"0X")
 }
 
+#[tactic(auto, using(octets::proofs::Exits::exits), unfolding(crate::specs::Line::size_of))]
 fn size_of(s: &[u8]) -> usize
     ensures { (result ≡ size_of s.now) × (1 ≤ result) }
 {
     if octets::hex_stands(true, s, 0, 2) {
-        return 2;
+        2
+    } else if has_mark(s) && octets::hex_stands(true, s, 2, 2) {
+        4
+    } else {
+        1
     }
-    if !has_mark(s) {
-        return 1;
-    }
-    if !octets::hex_stands(true, s, 2, 2) {
-        return 1;
-    }
-    4
 }
 
+#[tactic(auto, using(octets::proofs::Exits::exits), unfolding(crate::specs::Line::is_piece))]
 fn is_piece(s: &[u8]) -> bool
     ensures { result ≡ is_piece s.now }
 {
-    let size = size_of(s);
-    if size == 1 {
-        return is_gap(octets::octet(s, 0));
-    }
-    true
+    size_of(s) != 1 || is_gap(octets::octet(s, 0))
 }
 
-// How many octets the piece has.
-fn octet_count(s: &[u8]) -> usize
-    ensures { (result ≡ length (octet_in s.now)) × (result ≤ 1) }
+// The octet of the piece, if it is one.
+#[tactic(auto, using(octets::proofs::Exits::exits), unfolding(crate::specs::Inner::octet_of))]
+fn octet_of(s: &[u8]) -> Option<u8>
+    ensures { result ≡ octet_of s.now }
 {
     let size = size_of(s);
     if size == 1 {
-        return 0;
-    }
-    1
-}
-
-// Appends the octet of the piece, if it is one.
-fn append_piece(out: &mut [u8], n: usize, s: &[u8]) -> usize
-    ensures { Appended out.old n (octet_in s.now) result out.new }
-{
-    let size = size_of(s);
-    if size == 1 {
-        return n;
+        return None;
     }
     let x = octets::unhex_at(octets::rest(s, size - 2), 0);
-    octets::append(out, n, &[x])
+    Some(x)
 }
 
 // ---- a line
 
-// The place after the piece at `at`.
-fn next(line: &[u8], at: usize) -> usize
-    requires { at < length line.now }
-    ensures { Next line.now at result }
-{
-    let size = size_of(octets::rest(line, at));
-    at + size
+// The pieces of a line, each with what follows it.
+#[derive(Drop)]
+struct Pieces<'a>(&'a [u8]);
+
+impl<'a> Iterator for Pieces<'a> {
+    type Item = &'a [u8];
+
+    ghost next_gives = { YieldsFirstRef (λ s. pieces_of s.0.now) };
+
+    ghost remaining = { item_count (λ s. pieces_of s.0.now) };
+
+    fn next(&mut self) -> Option<&'a [u8]> {
+        let s = self.0;
+        if s.is_empty() {
+            return None;
+        }
+        self.0 = octets::rest(s, size_of(s));
+        Some(s)
+    }
 }
 
-// The place of the first character that begins no piece, or the end.
-fn place(line: &[u8]) -> usize
-    ensures { result ≡ place_from 0 line.now }
+// What is left of the line from the first character on that begins no piece.
+fn unread(line: &[u8]) -> Option<&[u8]>
+    ensures { MatchOption result (place_from 0 line.now ≡ length line.now) (λ s. Unread line.now s.now) }
 {
-    let mut at = 0;
-    while at < line.len() {
-        if !is_piece(octets::rest(line, at)) {
-            return at;
-        }
-        at = next(line, at);
-    }
-    at
+    Pieces(line).find(|s| !is_piece(s))
 }
 
 fn count(line: &[u8]) -> usize
     ensures { result ≡ length (octets_of line.now) }
 {
-    let mut n = 0;
-    let mut at = 0;
-    while at < line.len() {
-        n += octet_count(octets::rest(line, at));
-        at = next(line, at);
-    }
-    n
+    Pieces(line).filter_map(octet_of).count()
 }
 
 // The octets at the front of a buffer that has room for them.
@@ -131,25 +105,22 @@ fn write(line: &[u8], out: &mut [u8])
     ensures { out.new ≡ over (octets_of line.now) out.old }
 {
     let mut n = 0;
-    let mut at = 0;
-    while at < line.len() {
-        n = append_piece(out, n, octets::rest(line, at));
-        at = next(line, at);
+    for x in Pieces(line).filter_map(octet_of) {
+        n = octets::append(out, n, &[x]);
     }
 }
 
-// The octets of a line at the front of out. Where the line is bad or has too many, out stays as it is.
-pub fn octets_of(line: &[u8], out: &mut [u8]) -> Parsed
+// The octets of a line at the front of out, and how many they are. Where the line is bad or has too many, out stays as it is.
+pub fn octets_of(line: &[u8], out: &mut [u8]) -> Result<usize, HexError>
     ensures { (result ≡ parsed_of (length out.old) line.now) × (out.new ≡ left result line.now out.old) }
 {
-    let at = place(line);
-    if at < line.len() {
-        return Parsed::BadAt(at);
+    if let Some(s) = unread(line) {
+        return Err(HexError::BadAt(line.len() - s.len()));
     }
     let n = count(line);
     if out.len() < n {
-        return Parsed::TooMany;
+        return Err(HexError::TooMany);
     }
     write(line, out);
-    Parsed::Octets(n)
+    Ok(n)
 }

@@ -1,6 +1,7 @@
 // Plays a login between both ends in memory, and shows each packet.
 #![tactic(auto)]
 
+use arguments::Unplayed;
 use std::env::Env;
 use talk::Login;
 
@@ -26,21 +27,18 @@ fn example() {
     );
     console::say(b"and the authenticator string S=407A5589115FD0D6209F510FE9C04566932CDA56.\n");
     console::say(b"`login help` says how to play other logins.\n\n");
-    let made = roster::secret_of(b"clientPass");
-    let hash = made.hash;
+    let hash = roster::secret_of(b"clientPass").unwrap_or([0; 16]);
     let mut table = [0u8; 278];
-    let n = accounts::append_account(&mut table, 0, 0, hash, b"User");
-    talk::play(
-        octets::part(&table, 0, n),
-        b"User",
-        &[],
-        Login {
-            hash,
-            challenge: CHALLENGE,
-            random: PEER_CHALLENGE,
-            retries: 0,
-        },
-    );
+    let n = accounts::append_account(&mut table, 0, 0, hash, b"User").unwrap_or(0);
+    talk::play(&Login {
+        table: octets::part(&table, 0, n),
+        name: b"User",
+        text: &[],
+        hash,
+        challenge: CHALLENGE,
+        random: PEER_CHALLENGE,
+        retries: 0,
+    });
 }
 
 fn help() {
@@ -74,36 +72,24 @@ login TABLE NAME PASSWORD CHALLENGE PEER-CHALLENGE [RETRIES] [text=TEXT]
     console::ended_well();
 }
 
-fn is_help(word: &[u8]) -> bool {
-    if octets::equal(word, b"help") {
-        return true;
-    }
-    if octets::equal(word, b"--help") {
-        return true;
-    }
-    octets::equal(word, b"-h")
-}
-
 // One argument: a word for help.
 fn one_word<R: Env>(rt: &R) {
     let mut word = [0u8; 8];
     let n = console::arg(rt, 1, &mut word).unwrap_or(0);
-    if is_help(octets::part(&word, 0, n)) {
-        help();
-        return;
+    match &word[..n] {
+        b"help" | b"--help" | b"-h" => help(),
+        _ => arguments::complain(Unplayed::Argument(b"NAME and PASSWORD are missing")),
     }
-    arguments::complain(b"NAME and PASSWORD are missing");
 }
 
 fn main(rt: HostRuntime) {
-    let count = console::arg_count(&rt);
-    if count < 2 {
-        example();
-        return;
+    match console::arg_count(&rt) {
+        0 | 1 => example(),
+        2 => one_word(&rt),
+        count => {
+            if let Err(why) = arguments::play(&rt, count) {
+                arguments::complain(why);
+            }
+        }
     }
-    if count == 2 {
-        one_word(&rt);
-        return;
-    }
-    arguments::play(&rt, count);
 }

@@ -3,14 +3,19 @@ ghost use Rattle.std.specs.Prelude.{◌≡◌};
 ghost use Rattle.login.specs.Counted.{counted_up};
 
 use super::words;
-use answer::{Answer, Identifier};
-use packet::{End, Kind, Packet, Place, Reading};
-use peer::{Peer, PeerStep};
-use server::{Server, ServerStep};
+use answer::{Done, Identifier, Refusal, Reply};
+use packet::{End, Kind, Packet, Place};
+use peer::Peer;
+use server::Server;
+use writers::Ids;
 
-// The password's hash, the first challenge of either end, and how often the server lets the peer try again.
+// The server's account table, the peer's name and its password's hash, the first challenge of either end, how often the server
+// lets the peer try again, and the text that it puts in each Failure Request.
 #[derive(Clone, Copy)]
-pub struct Login {
+pub(crate) struct Login<'a> {
+    pub table: &'a [u8],
+    pub name: &'a [u8],
+    pub text: &'a [u8],
     pub hash: [u8; 16],
     pub challenge: [u8; 16],
     pub random: [u8; 16],
@@ -18,7 +23,7 @@ pub struct Login {
 }
 
 // Both ends, and how many octets the packet has that is on its way to the peer: 0 once the talk is over.
-#[derive(Clone, Copy)]
+#[derive(Drop)]
 struct Ends {
     peer: Peer,
     server: Server,
@@ -30,42 +35,35 @@ fn counted_up(challenge: [u8; 16], turn: u8) -> [u8; 16]
     ensures { result ≡ counted_up challenge turn }
 {
     let mut out = challenge;
-    out[15] = std::num::wrapping_add_u8(challenge[15], turn);
+    out[15] = challenge[15].wrapping_add(turn);
     out
 }
 
-fn needs_credentials(a: Answer) -> bool {
-    match a {
-        Answer::NeedsCredentials => true,
-        _ => false,
-    }
-}
-
 // A packet on its way: its fields in words, and its octets.
-fn show(way: &[u8], end: End, p: &[u8]) {
-    console::say(way);
+fn show(end: End, p: &[u8]) {
+    match end {
+        End::Peer => console::say(b"\n  server -> peer    "),
+        End::Server => console::say(b"\n  peer -> server    "),
+    }
     describe::reading(end, p);
     describe::dump(p);
     console::say(b"\n");
 }
 
-// ---- the peer
+// The reply that an answer wrote.
+fn written(answer: Result<Reply, Refusal>, reply: &[u8]) -> &[u8] {
+    octets::part(reply, 0, answer.map_or(0, |said| said.n))
+}
 
-fn tell_peer(done: PeerStep, reply: &[u8]) {
-    let answer = done.answer;
-    let peer = done.peer;
-    let stage = peer.stage;
-    let n = done.n;
+// What an end answers, its stage, and the packet that it sends to the other end.
+fn tell(answer: Result<Reply, Refusal>, stage: &[u8], other: End, reply: &[u8]) {
     words::answer(answer);
     console::say(b", stage ");
-    words::peer_stage(stage);
+    console::say(stage);
     console::say(b"\n");
-    if 0 < n {
-        show(
-            b"\n  peer -> server    ",
-            End::Server,
-            octets::part(reply, 0, n),
-        );
+    let p = written(answer, reply);
+    if 0 < p.len() {
+        show(other, p);
     }
 }
 
@@ -79,120 +77,24 @@ fn tell_text(text: Place, packet: &[u8]) {
     console::say(b"\n");
 }
 
-fn peer_step(peer: Peer, packet: &[u8], random: [u8; 16], reply: &mut [u8]) -> PeerStep {
-    let done = peer.step(packet, random, reply);
-    let text = done.text;
-    tell_text(text, packet);
-    console::say(b"peer: ");
-    tell_peer(done, reply);
-    done
-}
-
-fn peer_supply(peer: Peer, name: &[u8], login: Login, turn: u8, reply: &mut [u8]) -> PeerStep {
-    let hash = login.hash;
-    let random = login.random;
-    let done = peer.supply(name, hash, counted_up(random, turn), reply);
-    console::say(b"peer, given the same name and password: ");
-    tell_peer(done, reply);
-    done
-}
-
-fn peer_turn(
-    peer: Peer,
-    packet: &[u8],
-    name: &[u8],
-    login: Login,
-    turn: u8,
-    reply: &mut [u8],
-) -> PeerStep {
-    let random = login.random;
-    let done = peer_step(peer, packet, counted_up(random, turn), reply);
-    let answer = done.answer;
-    if needs_credentials(answer) {
-        return peer_supply(done.peer, name, login, turn, reply);
-    }
-    done
-}
-
-// ---- the server
-
-fn tell_server(done: ServerStep, reply: &[u8]) {
-    let answer = done.answer;
-    let server = done.server;
-    let stage = server.stage;
-    let n = done.n;
-    words::answer(answer);
-    console::say(b", stage ");
-    words::server_stage(stage);
-    console::say(b"\n");
-    if 0 < n {
-        show(
-            b"\n  server -> peer    ",
-            End::Peer,
-            octets::part(reply, 0, n),
-        );
-    }
-}
-
-fn server_turn(
-    server: Server,
-    packet: &[u8],
-    table: &[u8],
-    fresh: [u8; 16],
-    reply: &mut [u8],
-) -> ServerStep {
-    let done = server.packet(packet, table, fresh, reply);
-    console::say(b"server: ");
-    tell_server(done, reply);
-    done
-}
-
 // ---- a server that has a text
 
-fn is_retry(kind: Kind) -> u8 {
-    match kind {
-        Kind::RetryRequest => 1,
-        _ => 0,
-    }
-}
-
-fn is_failure(kind: Kind) -> bool {
-    match kind {
-        Kind::FailureRequest => true,
-        Kind::RetryRequest => true,
-        _ => false,
-    }
-}
-
-// The same Failure Request with the text after M=; its length.
+// A Failure Request with the text after M= in place of what it has; its length.
 fn with_text(k: Packet, text: &[u8], packet: &mut [u8]) -> usize {
-    let kind = k.kind;
-    let id = k.id;
-    let chapid = k.chapid;
     let written = writers::write_failure_request(
-        id,
-        chapid,
+        Ids {
+            id: k.id,
+            chapid: k.chapid,
+        },
         k.error,
-        is_retry(kind),
+        u8::from(k.kind == Kind::RetryRequest),
         packet::hex_sixteen_at(packet, k.challenge.start),
         text,
         packet,
     );
-    let n = written.n;
+    let n = written.unwrap_or(0);
     console::say(b"with the text, as another server writes it:\n");
-    show(
-        b"\n  server -> peer    ",
-        End::Peer,
-        octets::part(packet, 0, n),
-    );
-    n
-}
-
-fn if_failure(k: Packet, n: usize, text: &[u8], packet: &mut [u8]) -> usize {
-    let kind = k.kind;
-    if is_failure(kind) {
-        return with_text(k, text, packet);
-    }
+    show(End::Peer, octets::part(packet, 0, n));
     n
 }
 
@@ -201,115 +103,108 @@ fn given_text(n: usize, text: &[u8], packet: &mut [u8]) -> usize {
     if text.len() == 0 {
         return n;
     }
-    let x = packet::read(End::Peer, octets::part(packet, 0, n));
-    match x {
-        Reading::Refused(_) => n,
-        Reading::Read(k) => if_failure(k, n, text, packet),
+    match packet::read(End::Peer, octets::part(packet, 0, n)) {
+        Ok(k) if matches!(k.kind, Kind::FailureRequest | Kind::RetryRequest) => {
+            with_text(k, text, packet)
+        }
+        _ => n,
     }
 }
 
 // ---- both
 
-fn begin(name: &[u8], login: Login, packet: &mut [u8]) -> Ends {
-    let hash = login.hash;
-    let challenge = login.challenge;
-    let made = Peer::new(name, hash);
-    let peer = made.peer;
-    let server = Server::new();
-    let done = server.start(Identifier(1), challenge, b"server", login.retries, packet);
-    console::say(b"server starts: ");
-    tell_server(done, packet);
-    let server = done.server;
-    Ends {
-        peer,
-        server,
-        n: done.n,
+impl Ends {
+    fn begin(login: &Login, packet: &mut [u8]) -> Ends {
+        let peer = Peer::new(login.name, login.hash).peer;
+        let done = Server::new().start(
+            Identifier(1),
+            login.challenge,
+            b"server",
+            login.retries,
+            packet,
+        );
+        console::say(b"server starts: ");
+        let stage = words::server_stage(done.server.stage);
+        tell(done.answer, stage, End::Peer, packet);
+        Ends {
+            peer,
+            server: done.server,
+            n: written(done.answer, packet).len(),
+        }
     }
-}
 
-// The peer takes the packet, and the server takes the reply.
-fn round(
-    ends: Ends,
-    turn: u8,
-    table: &[u8],
-    name: &[u8],
-    text: &[u8],
-    login: Login,
-    packet: &mut [u8],
-) -> Ends {
-    let mut reply = [0u8; 400];
-    let took = peer_turn(
-        ends.peer,
-        octets::part(packet, 0, ends.n),
-        name,
-        login,
-        turn,
-        &mut reply,
-    );
-    let peer = took.peer;
-    let n = took.n;
-    if n == 0 {
-        let server = ends.server;
-        return Ends { peer, server, n: 0 };
+    // The peer takes the packet, and is given the same name and password again where it asks for them; the length of its reply.
+    fn peer_turn(&mut self, login: &Login, turn: u8, packet: &[u8], reply: &mut [u8]) -> usize {
+        let random = counted_up(login.random, turn);
+        let mut done = self.peer.step(packet, random, reply);
+        tell_text(done.text, packet);
+        console::say(b"peer: ");
+        let stage = words::peer_stage(done.peer.stage);
+        tell(done.answer, stage, End::Server, reply);
+        if done
+            .answer
+            .is_ok_and(|said| said.done == Done::NeedsCredentials)
+        {
+            done = done.peer.supply(login.name, login.hash, random, reply);
+            console::say(b"peer, given the same name and password: ");
+            let stage = words::peer_stage(done.peer.stage);
+            tell(done.answer, stage, End::Server, reply);
+        }
+        self.peer = done.peer;
+        written(done.answer, reply).len()
     }
-    let challenge = login.challenge;
-    let done = server_turn(
-        ends.server,
-        octets::part(&reply, 0, n),
-        table,
-        counted_up(challenge, std::num::wrapping_add_u8(turn, 1)),
-        packet,
-    );
-    let server = done.server;
-    let n = given_text(done.n, text, packet);
-    Ends { peer, server, n }
-}
 
-fn is_in(ends: Ends) -> bool {
-    let peer = ends.peer;
-    let stage = peer.stage;
-    match stage {
-        peer::Stage::Success => true,
-        _ => false,
+    // The server takes the peer's reply.
+    fn server_turn(&mut self, login: &Login, turn: u8, reply: &[u8], packet: &mut [u8]) {
+        let fresh = counted_up(login.challenge, turn.wrapping_add(1));
+        let done = self.server.packet(reply, login.table, fresh, packet);
+        console::say(b"server: ");
+        let stage = words::server_stage(done.server.stage);
+        tell(done.answer, stage, End::Peer, packet);
+        self.server = done.server;
+        self.n = given_text(written(done.answer, packet).len(), login.text, packet);
     }
-}
 
-fn tell_stages(ends: Ends) {
-    let peer = ends.peer;
-    let server = ends.server;
-    let peer_stage = peer.stage;
-    let server_stage = server.stage;
-    console::say(b"peer ");
-    words::peer_stage(peer_stage);
-    console::say(b", server ");
-    words::server_stage(server_stage);
-    console::say(b".\n");
-}
-
-fn over(ends: Ends) {
-    if is_in(ends) {
-        console::say(b"\nLogged in: ");
-        tell_stages(ends);
-        console::ended_well();
-        return;
+    fn round(&mut self, login: &Login, turn: u8, packet: &mut [u8]) {
+        let mut reply = [0u8; 400];
+        let n = self.peer_turn(login, turn, octets::part(packet, 0, self.n), &mut reply);
+        if n == 0 {
+            self.n = 0;
+            return;
+        }
+        self.server_turn(login, turn, octets::part(&reply, 0, n), packet);
     }
-    console::say(b"\nNot logged in: ");
-    tell_stages(ends);
-    console::ended_badly(b"not logged in");
+
+    fn tell_stages(&self) {
+        console::say(b"peer ");
+        console::say(words::peer_stage(self.peer.stage));
+        console::say(b", server ");
+        console::say(words::server_stage(self.server.stage));
+        console::say(b".\n");
+    }
+
+    fn over(&self) {
+        if self.peer.stage == peer::Stage::Success {
+            console::say(b"\nLogged in: ");
+            self.tell_stages();
+            console::ended_well();
+            return;
+        }
+        console::say(b"\nNot logged in: ");
+        self.tell_stages();
+        console::ended_badly(b"not logged in");
+    }
 }
 
 // Twenty turns are more than any login takes.
-pub(crate) fn play(table: &[u8], name: &[u8], text: &[u8], login: Login) {
+pub(crate) fn play(login: &Login) {
     let mut packet = [0u8; 1020];
-    let mut ends = begin(name, login, &mut packet);
-    let mut turn: u8 = 0;
-    while turn < 20 {
+    let mut ends = Ends::begin(login, &mut packet);
+    for turn in 0..20 {
         if ends.n == 0 {
-            over(ends);
-            return;
+            break;
         }
-        ends = round(ends, turn, table, name, text, login, &mut packet);
-        turn += 1;
+        ends.round(login, turn, &mut packet);
     }
-    over(ends);
+    ends.over();
 }

@@ -1,19 +1,21 @@
 -- Three pieces joined in a buffer, and what is made of them.
-use Prim.Native.Nat.{ℕ, ◌+◌, ◌-◌, ◌*◌, ◌≤◌, ◌<◌}
+use Prim.Native.Nat.{ℕ, ◌+◌, ◌-◌, ◌*◌, ◌/◌, ◌%◌, ◌≤◌, ◌<◌}
 use mathlib.Core.Path.{◌≡◌, refl, sym, ap, ◌∙◌}
 use mathlib.Core.List.{List, [], ◌++◌, append-nil}
 use native.Mathlib.Omega.{arith}
-use lib.ListN.{length, take, drop, replicate, length-append, length-drop, drop_of_length-le}
+use lib.ListN.{length, get_or, take, drop, replicate, length-append, length-drop, drop_of_length-le}
 use lib.Seq.{take_at, length-take-le, get_or-take, get_or-drop, ext_get_or}
+use Rattle.octets.specs.Choice.{pick}
 use Rattle.octets.specs.Lists.{cells, sized, over, put}
-use Rattle.octets.proofs.Lists.{put_three, put_front, length_sized, get_or_sized, sized_take, get_or_zeros}
-use Rattle.octets.proofs.Parts.{rest_all}
+use Rattle.octets.proofs.Lists.{put_three, put_front, length_cells, get_or_cells, length_sized, get_or_sized, sized_take, get_or_zeros}
+use Rattle.octets.proofs.Exits.{arms, below}
+use Rattle.octets.proofs.Scans.{get_or_past}
 use Rattle.digest.specs.Md4.{md4_of}
-use Rattle.digest.specs.Sha1.{sha1_of, sha1_told, told_sha1}
-use Rattle.digest.specs.declared.Sha1Digest.{Sha1Digest}
-use Rattle.digest.proofs.Digests.{length_sha1, sha1_octets}
+use Rattle.digest.specs.Sha1.{sha1_of}
+use Rattle.digest.proofs.Digests.{length_sha1}
 use Rattle.des.proofs.Halves.{length_enciphered}
-use Rattle.mschap.specs.Responses.{unit_octet, password_hash, challenge_hash, key_part, block_of}
+use Rattle.std.specs.Int.{w16, to_le_bytes}
+use Rattle.mschap.specs.Responses.{half_of, unit_octet, password_hash, challenge_hash, key_part, block_of}
 
 module _ (a b c : List ℕ) where
   pub length_three : length (a ++ b ++ c) ≡ length a + length b + length c
@@ -30,20 +32,33 @@ module _ (a b c : List ℕ) where
       let z : drop (length (a ++ b ++ c)) d ≡ [] = drop_of_length-le d {i = length (a ++ b ++ c)} (omega (arith, length_three)) in
       f ∙ rw z (append-nil (a ++ b ++ c))
 
-  -- SHA-1 over the joined pieces
-  pub sha1_joined : (d : Sha1Digest) (old buffer : List ℕ) → length a + length b + length c ≤ 288 → buffer ≡ over (a ++ b ++ c) old → told_sha1 d ≡ sha1_told (take (length a + length b + length c - 0) buffer) → d.octets ≡ sha1_of (a ++ b ++ c)
-  sha1_joined d old buffer h e t =
-      let n = length a + length b + length c - 0 in
-      let k : length (a ++ b ++ c) ≡ n = length_three ∙ omega arith in
-      let m : take n buffer ≡ a ++ b ++ c = ap (take n) e ∙ take_at (a ++ b ++ c) _ n k in
-      sha1_octets d _ (a ++ b ++ c) t m (omega (arith, length_three))
+  -- the joined pieces, cut from the buffer
+  pub joined_front : (old buffer : List ℕ) → buffer ≡ over (a ++ b ++ c) old → take (length a + length b + length c - 0) buffer ≡ a ++ b ++ c
+  joined_front old buffer e = ap (take (length a + length b + length c - 0)) e ∙ take_at (a ++ b ++ c) _ (length a + length b + length c - 0) (length_three ∙ omega arith)
 
--- ---- MD4 over the front of a buffer
-pub password_is : (units buffer h : List ℕ) → take (2 * length units) buffer ≡ cells (2 * length units) (unit_octet units) → h ≡ md4_of (take (2 * length units - 0) buffer) → h ≡ password_hash units
+-- ---- octets of units
+pub octet_is : (units : List ℕ) (k unit : ℕ) → unit ≡ get_or units (k / 2) 0 → unit < 65536 → get_or (to_le_bytes w16 unit) (k % 2) 0 ≡ unit_octet units k
+unfolding half_of pick
+octet_is units k unit e h =
+    below (k % 2) 1
+    (λ l. let z : k % 2 ≡ 0 = omega arith in rw (z, ← e) refl)
+    (λ g. let z : k % 2 ≡ 1 = omega arith in rw (z, ← e) (omega arith))
+
+pub octet_none : (units : List ℕ) (k : ℕ) → length units ≤ k / 2 → 0 ≡ unit_octet units k
+unfolding half_of
+octet_none units k h = sym (ap (λ (unit : ℕ). half_of unit k) (sym (get_or_past units (k / 2) h)) ∙ arms (λ (n : ℕ). n ≡ 0) _ refl refl)
+
+pub take_cells : (m n : ℕ) (f : ℕ → ℕ) → m ≤ n → take m (cells n f) ≡ cells m f
+take_cells m n f h =
+    let long : length (take m (cells n f)) ≡ m = length-take-le m (cells n f) (omega (arith, length_cells n f)) in
+    ext_get_or 0 (take m (cells n f)) (cells m f) (long ∙ sym (length_cells m f))
+    (λ i l. let k : i < m = rw long at l in get_or-take m (cells n f) i 0 k ∙ get_or_cells n f i (omega arith) ∙ sym (get_or_cells m f i k))
+
+pub password_is : (units buffer h : List ℕ) → length units ≤ 256 → buffer ≡ cells 512 (unit_octet units) → h ≡ md4_of (take (2 * length units - 0) buffer) → h ≡ password_hash units
 unfolding password_hash
-password_is units buffer h e t =
+password_is units buffer h l e t =
     let k : 2 * length units - 0 ≡ 2 * length units = omega arith in
-    t ∙ ap (λ (n : ℕ). md4_of (take n buffer)) k ∙ ap md4_of e
+    t ∙ ap (λ (n : ℕ). md4_of (take n buffer)) k ∙ ap (λ (b : List ℕ). md4_of (take (2 * length units) b)) e ∙ ap md4_of (take_cells (2 * length units) 512 (unit_octet units) (omega arith))
 
 -- ---- the first eight octets
 pub challenge_is : (peer authenticator user d out : List ℕ) → d ≡ sha1_of (peer ++ authenticator ++ user) → out ≡ sized 8 d → out ≡ challenge_hash peer authenticator user
@@ -52,15 +67,13 @@ challenge_is peer authenticator user d out e f =
     f ∙ ap (sized 8) e ∙ sized_take 8 (sha1_of (peer ++ authenticator ++ user)) (omega (arith, length_sha1 (peer ++ authenticator ++ user)))
 
 -- ---- a key of the three
-pub key_is : (hash out : List ℕ) (j : ℕ) → length hash ≡ 16 → j < 3 → out ≡ sized 7 (take (16 - 7 * j) (drop (7 * j) hash)) → out ≡ key_part hash j
+pub key_is : (hash out : List ℕ) (j : ℕ) → length hash ≡ 16 → j < 3 → out ≡ sized 7 (drop (7 * j) hash) → out ≡ key_part hash j
 unfolding key_part
 key_is hash out j e h f =
     let z = hash ++ replicate 5 0 in
     let n : length z ≡ 21 = length-append hash (replicate 5 0) ∙ omega arith in
     let l : length (take 7 (drop (7 * j) z)) ≡ 7 = length-take-le 7 (drop (7 * j) z) (omega (arith, length-drop (7 * j) z)) in
-    let r : take (16 - 7 * j) (drop (7 * j) hash) ≡ drop (7 * j) hash = ap (λ (k : ℕ). take (k - 7 * j) (drop (7 * j) hash)) (sym e) ∙ rest_all hash (7 * j) in
     f
-    ∙ ap (sized 7) r
     ∙ ext_get_or 0 (sized 7 (drop (7 * j) hash)) (take 7 (drop (7 * j) z)) (length_sized 7 (drop (7 * j) hash) ∙ sym l)
     (λ i k.
     let q : i < 7 = rw (length_sized 7 (drop (7 * j) hash)) at k in

@@ -1,9 +1,8 @@
--- The user's place in a name, and one answer for every need of its search: `search users`.
-use Prim.Native.Nat.{ℕ, suc, ◌+◌, ◌≤◌, ◌<◌, suc-le-suc}
-use mathlib.Core.Path.{◌≡◌, refl, ap, ◌∙◌}
+-- The user's place in a name.
+use Prim.Native.Nat.{ℕ, zero, suc, ◌+◌, ◌≤◌, ◌<◌, suc-le-suc}
+use mathlib.Core.Path.{◌≡◌, refl, sym, ap, ◌∙◌}
 use mathlib.Core.List.{List, [], ◌∷◌, ◌++◌}
 use mathlib.Core.Bool.{false}
-use native.Mathlib.Numerals.{add-one}
 use native.Mathlib.Omega.{arith}
 use lib.Dec.{eqb}
 use lib.ListN.{length, get_or, drop, length-drop, drop_of_length-le}
@@ -12,23 +11,28 @@ use borrow.Author.Tests.{eq-eqb, ne_eqb}
 use Rattle.octets.specs.Choice.{pick}
 use Rattle.octets.specs.Lists.{part}
 use Rattle.octets.proofs.Exits.{pick_true, pick_false, arms}
-use Rattle.octets.proofs.Loops.{scanning}
 use Rattle.mschap.specs.Users.{start_from, user_start, user_of}
 use Rattle.mschap.specs.Promises.{Plain, UsersExact}
 
-pub start_more : (s : List ℕ) (i : ℕ) → i < length s → (get_or s i 0 ≡ 92 → ⊥) → start_from i (drop i s) ≡ start_from (i + 1) (drop (i + 1) s)
+start_more : (s : List ℕ) (i : ℕ) → i < length s → (get_or s i 0 ≡ 92 → ⊥) → start_from i (drop i s) ≡ start_from (suc i) (drop (suc i) s)
 unfolding start_from
-start_more s i h e = rw (add-one, drop-cons s i 0 h) (pick_false _ _ _ (ne_eqb _ _ e))
+start_more s i h e = rw (drop-cons s i 0 h) (pick_false _ _ _ (ne_eqb _ _ e))
 
-pub start_found : (s : List ℕ) (i : ℕ) → i < length s → get_or s i 0 ≡ 92 → start_from i (drop i s) ≡ i + 1
+-- i octets are passed, none of them a backslash
+start_on : (s : List ℕ) (i : ℕ) → i ≤ length s → ((k : ℕ) → k < i → get_or s k 0 ≡ 92 → ⊥) → user_start s ≡ start_from i (drop i s)
+unfolding user_start
+start_on s zero h f = refl
+start_on s (suc i) h f = start_on s i (omega arith) (λ k l. f k (omega arith)) ∙ start_more s i h (f i (omega arith))
+
+pub start_found : (s : List ℕ) (i : ℕ) → i < length s → get_or s i 0 ≡ 92 → ((k : ℕ) → k < i → get_or s k 0 ≡ 92 → ⊥) → i + 1 ≡ user_start s
 unfolding start_from
-start_found s i h e = rw (add-one, drop-cons s i 0 h) (pick_true _ _ _ (eq-eqb _ _ e))
+start_found s i h e f =
+    let here : start_from i (drop i s) ≡ suc i = rw (drop-cons s i 0 h) (pick_true _ _ _ (eq-eqb _ _ e)) in
+    sym (start_on s i (omega arith) f ∙ here ∙ omega arith)
 
-pub start_none : (s : List ℕ) (i : ℕ) → length s ≤ i → start_from i (drop i s) ≡ 0
+pub start_none : (s : List ℕ) → ((k : ℕ) → k < length s → get_or s k 0 ≡ 92 → ⊥) → 0 ≡ user_start s
 unfolding start_from
-start_none s i h = simp (drop_of_length-le s h)
-
-pub ruleset users = (scanning, start_more, start_found, start_none)
+start_none s f = sym (start_on s (length s) (omega arith) f ∙ simp (drop_of_length-le s {i = length s} (omega arith)))
 
 start_most : (i : ℕ) (s : List ℕ) → start_from i s ≤ i + length s
 unfolding start_from

@@ -1,15 +1,12 @@
 -- 01, "What a call answers" and "Sizes": 23 for a name, a user or a password of more than 256, with zeros beside it; else 0.
-use Rattle.std.specs.Prelude.{ℕ, List, ltb, length, replicate}
+use Rattle.std.specs.Prelude.{ℕ, List, Result, ltb, length, replicate}
 use Rattle.octets.specs.Choice.{pick}
-use Rattle.answer.specs.Answer.{number_of}
+use Rattle.answer.specs.declared.Refusal.{Refusal}
 use Rattle.answer.specs.Outcome.{Told, gives, refuses}
+use Rattle.answer.specs.Results.{told_by}
 use Rattle.mschap.specs.Users.{user_start, user_of}
 use Rattle.mschap.specs.Responses.{password_hash, challenge_hash, nt_response, authenticator_of}
-use Rattle.mschap.specs.declared.PasswordHash.{PasswordHash}
 use Rattle.mschap.specs.declared.User.{User}
-use Rattle.mschap.specs.declared.ChallengeHash.{ChallengeHash}
-use Rattle.mschap.specs.declared.NtResponse.{NtResponse}
-use Rattle.mschap.specs.declared.Authenticator.{Authenticator}
 
 -- what is given for an argument of some size: x up to 256, and else zero
 unfoldable pub limited : {A : Type 0} → ℕ → A → A → Told A
@@ -36,17 +33,17 @@ unfoldable pub authenticator_told : List ℕ → List ℕ → List ℕ → List 
 authenticator_told hash response peer authenticator user = limited (length user) (replicate 20 0) (authenticator_of hash response peer authenticator user)
 
 -- ---- what the functions return, in the paper's numbers
-abbrev pub told_password_hash : PasswordHash → Told (List ℕ)
-told_password_hash r = record { number = number_of r.answer; n = 0; value = r.octets }
+abbrev pub told_password_hash : Result (List ℕ) Refusal → Told (List ℕ)
+told_password_hash r = told_by (λ h. h) (replicate 16 0) r
 
-abbrev pub told_user : User → Told Place
-told_user r = record { number = number_of r.answer; n = 0; value = record { start = r.start; len = r.len } }
+abbrev pub told_user : Result User Refusal → Told Place
+told_user r = told_by (λ (u : User). record { start = u.start; len = u.len }) (record { start = 0; len = 0 }) r
 
-abbrev pub told_challenge_hash : ChallengeHash → Told (List ℕ)
-told_challenge_hash r = record { number = number_of r.answer; n = 0; value = r.octets }
+abbrev pub told_challenge_hash : Result (List ℕ) Refusal → Told (List ℕ)
+told_challenge_hash r = told_by (λ h. h) (replicate 8 0) r
 
-abbrev pub told_nt_response : NtResponse → Told (List ℕ)
-told_nt_response r = record { number = number_of r.answer; n = 0; value = r.octets }
+abbrev pub told_nt_response : Result (List ℕ) Refusal → Told (List ℕ)
+told_nt_response r = told_by (λ h. h) (replicate 24 0) r
 
-abbrev pub told_authenticator : Authenticator → Told (List ℕ)
-told_authenticator r = record { number = number_of r.answer; n = 0; value = r.octets }
+abbrev pub told_authenticator : Result (List ℕ) Refusal → Told (List ℕ)
+told_authenticator r = told_by (λ h. h) (replicate 20 0) r

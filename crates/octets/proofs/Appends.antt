@@ -5,11 +5,10 @@ use mathlib.Core.List.{List, [], ◌++◌, append_assoc, append-nil}
 use native.Mathlib.Omega.{arith}
 use lib.ListN.{length, take, drop, length-append, length-drop}
 use lib.Seq.{length-take-le, drop-drop}
-use borrow.Author.Rules.{rules}
+use borrow.Rule.Slice.PartMut.{put_mid}
 use borrow.Author.Tests.{le-leb, lt-leb}
 use Rattle.octets.specs.Lists.{cells, over, put, next_at, Appended}
 use Rattle.octets.proofs.Exits.{pick_true, pick_false}
-use Rattle.octets.proofs.Loops.{put_longer, put_past}
 use Rattle.octets.proofs.Lists.{length_cells, put_fits, put_over, put_front}
 
 next_fits : (d s : List ℕ) (i : ℕ) → i + length s ≤ length d → next_at d i s ≡ i + length s
@@ -20,28 +19,32 @@ next_not : (d s : List ℕ) (i : ℕ) → length d < i + length s → next_at d 
 unfolding next_at
 next_not d s i h = pick_false _ _ _ (lt-leb _ _ h)
 
--- s has n octets
-pub append_longer : (d s : List ℕ) (i n : ℕ) → length s ≡ n → length d < n → Appended d i s i d
-append_longer d s i n e h = record { place = sym (next_not d s i (omega arith)); now = put_longer d i s (omega arith) }
+put_not : (d s : List ℕ) (i : ℕ) → length d < i + length s → d ≡ put d i s
+unfolding put
+put_not d s i h = sym (pick_false _ _ _ (lt-leb _ _ h))
 
-pub append_past : (d s : List ℕ) (i n : ℕ) → length s ≡ n → n ≤ length d → length d - n < i → Appended d i s i d
-append_past d s i n e h k = record { place = sym (next_not d s i (omega arith)); now = put_past d i s (omega arith) (omega arith) }
+-- there is no room for s
+pub append_not : (d s : List ℕ) (i : ℕ) → length d < i + length s → Appended d i s i d
+append_not d s i h = record { place = sym (next_not d s i h); now = put_not d s i h }
 
-pub append_fits : (d s l : List ℕ) (i n : ℕ) → length s ≡ n → n ≤ length d → i ≤ length d - n → l ≡ put d i s → Appended d i s (i + n) l
-append_fits d s l i n e h k p = record { place = rw (← e) (sym (next_fits d s i (omega arith))); now = p }
+-- a part of d was lent, and s written there
+pub append_part : (d s l : List ℕ) (i end : ℕ) → end ≡ i + length s → end ≤ length d → l ≡ s → Appended d i s end (put_mid i (end - i) d l)
+append_part d s l i end e h w =
+    let k : i + length s ≤ length d = omega arith in
+    let z : i + (end - i) ≡ i + length s = omega arith in
+    record {
+      place = e ∙ sym (next_fits d s i k);
+      now = rw (w, drop-drop, z) (sym (append_assoc (take i d) s (drop (i + length s) d)) ∙ sym (put_fits d s i k));
+    }
 
--- a part of d was lent and filled
-pub append_lent : (d l : List ℕ) (f : ℕ → ℕ) (i n : ℕ) → n ≤ length d → i ≤ length d - n → l ≡ cells (length (take (i + n - i) (drop i d))) f → Appended d i (cells n f) (i + n) (take i d ++ (l ++ drop (i + n - i) (drop i d)))
-append_lent d l f i n h k e =
-    let z : i + n - i ≡ n = omega arith in
-    let m : length (take n (drop i d)) ≡ n = length-take-le n (drop i d) (omega (arith, length-drop i d)) in
-    let w : l ≡ cells n f = e ∙ rw (z, m) in
-    let c : length (cells n f) ≡ n = length_cells n f in
-    append_fits d (cells n f) _ i n c h k
-    (rw (z, w, drop-drop)
-    (sym (append_assoc (take i d) (cells n f) (drop (i + n) d)) ∙ sym (rw c at (put_fits d (cells n f) i (omega arith)))))
+-- the same of n octets by their places
+pub append_cells_not : (d : List ℕ) (f : ℕ → ℕ) (i n : ℕ) → length d < i + n → Appended d i (cells n f) i d
+append_cells_not d f i n h = append_not d (cells n f) i (omega (arith, length_cells n f))
 
-pub ruleset appending = (rules, append_longer, append_past, append_fits, append_lent, length_cells)
+pub append_cells : (d l : List ℕ) (f : ℕ → ℕ) (i n end : ℕ) → end ≡ i + n → end ≤ length d → l ≡ cells (length (take (end - i) (drop i d))) f → Appended d i (cells n f) end (put_mid i (end - i) d l)
+append_cells d l f i n end e h w =
+    let m : length (take (end - i) (drop i d)) ≡ n = length-take-le (end - i) (drop i d) (omega (arith, length-drop i d)) ∙ omega arith in
+    append_part d (cells n f) l i end (omega (arith, length_cells n f)) h (rw m at w)
 
 pub appended_by : (d s t l : List ℕ) (i n : ℕ) → Appended d i s n l → s ≡ t → Appended d i t n l
 appended_by d s t l i n p e = rw e at p

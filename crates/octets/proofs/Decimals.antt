@@ -5,13 +5,13 @@ use mathlib.Core.List.{List, [], ◌∷◌, ◌++◌, append_assoc, append-nil}
 use mathlib.Core.Bool.{true, false}
 use native.Mathlib.Omega.{arith}
 use lib.ListN.{length, take, drop, set, length-set, length-append, length-drop, drop_of_length-le}
-use lib.Seq.{drop-cons, drop-set-lt, get_or-set_same}
+use lib.Seq.{drop-cons, drop-set-lt, get_or-set_same, take_all}
+use borrow.Rule.Slice.PartMut.{mid_of}
 use lib.Dec.{ltb}
 use borrow.Author.Tests.{ltb-true, ltb-false, lt-ltb, le-ltb}
 use borrow.Author.Rules.{rules}
 use Rattle.octets.specs.Choice.{pick}
 use Rattle.octets.specs.Octets.{decimals, decimal, digits, digit_value, number_from, number, is_digit}
-use Rattle.octets.specs.Inner.{DigitsFrom}
 use Rattle.octets.proofs.Exits.{pick_true, pick_false, below, tested, passed}
 use Rattle.octets.proofs.Scans.{ten}
 
@@ -50,25 +50,19 @@ spell_more {n} {digits} {i} {m} p h d =
       is = ap (λ (l : List ℕ). decimals k (m / 10) ++ l) (drop_set digits k (48 + m % 10) (omega arith)) ∙ sym (append_assoc (decimals k (m / 10)) ((48 + m % 10) ∷ []) (drop (suc k) digits)) ∙ ap (λ (l : List ℕ). l ++ drop (suc k) digits) (sym (more_digits k m (omega arith))) ∙ q;
     }
 
--- what stands from i on is all
-counted : (n : ℕ) (digits : List ℕ) (i : ℕ) → length digits ≡ 10 → i ≤ 10 → drop i digits ≡ decimal n → DigitsFrom n digits i
-counted n digits i e h q = record { size = omega (arith, length-drop i digits, ap length q); is = q }
-
-pub spell_last : {n : ℕ} {digits : List ℕ} {i m : ℕ} → Spelled n digits i m → 0 < i → m / 10 ≡ 0 → DigitsFrom n (set digits (i - 1) (48 + m % 10)) (i - 1)
+-- the place of the last digit, and what stands from there to the end
+pub spell_last : {n : ℕ} {digits : List ℕ} {i m : ℕ} → Spelled n digits i m → 0 < i → m / 10 ≡ 0 → mid_of (i - 1) (10 - (i - 1)) (set digits (i - 1) (48 + m % 10)) ≡ decimal n
 spell_last {n} {digits} {i} {m} p h d =
     let k = i - 1 in
     let e : suc k ≡ i = omega arith in
     let o : m % 10 ≡ m = omega arith in
     let q : decimals (suc k) m ++ drop (suc k) digits ≡ decimal n = rw e p.is in
-    let w : drop k (set digits k (48 + m % 10)) ≡ decimal n = drop_set digits k (48 + m % 10) (omega arith) ∙ rw o (rw (one_digit k m (omega arith)) at q) in
-    counted n (set digits k (48 + m % 10)) k (length-set digits k (48 + m % 10) ∙ p.long) (omega arith) w
+    take_all (10 - k) (drop k (set digits k (48 + m % 10))) (omega (arith, length-drop k (set digits k (48 + m % 10)), length-set digits k (48 + m % 10)))
+    ∙ drop_set digits k (48 + m % 10) (omega arith) ∙ rw o (rw (one_digit k m (omega arith)) at q)
 
-pub spell_done : {n : ℕ} {digits : List ℕ} {i m : ℕ} → Spelled n digits i m → i ≤ 0 → DigitsFrom n digits i
+pub spell_done : {n : ℕ} {digits : List ℕ} {m : ℕ} → Spelled n digits 0 m → digits ≡ decimal n
 unfolding decimals
-spell_done {n} {digits} {i} {m} p h =
-    let e : i ≡ 0 = omega arith in
-    let q : decimals 0 m ++ drop 0 digits ≡ decimal n = rw e at p.is in
-    counted n digits i p.long p.most (rw e q)
+spell_done p = p.is
 
 pub ruleset spelling = (rules, spell_none, spell_more, spell_last, spell_done)
 

@@ -1,5 +1,4 @@
--- One answer for every exit of a decision: `search exits` where it has calls, `search wide` where it has none,
--- `search (told f, tests)` for a match.
+-- One answer for every exit of a decision: `search exits` where it has calls, `search wide` where it has none.
 use Prim.Native.Nat.{ℕ, ◌<◌, ◌≤◌}
 use mathlib.Core.Path.{◌≡◌, refl, sym, ap, ◌∙◌}
 use mathlib.Core.Bool.{Bool, true, false, not, ◌&&◌, ◌||◌}
@@ -118,22 +117,6 @@ and_first a b p = ap (λ (o : Bool). o && b) p
 pub and_second : (a b : Bool) → a ≡ true → b ≡ false → (a && b) ≡ false
 and_second a b p q = ap (λ (o : Bool). o && b) p ∙ q
 
--- a match: the enum is at the variant b. The enum is f's first argument
-pub told : {A B : Type 0} (f : A → B) (a b : A) (r : B) → a ≡ b → r ≡ f b → r ≡ f a
-told f a b r e h = h ∙ sym (ap f e)
-
-pub told_2 : {A B C : Type 0} (f : A → B → C) (a b : A) (x : B) (r : C) → a ≡ b → r ≡ f b x → r ≡ f a x
-told_2 {A} f a b x r e h = h ∙ sym (ap (λ (z : A). f z x) e)
-
-pub told_3 : {A B C D : Type 0} (f : A → B → C → D) (a b : A) (x : B) (y : C) (r : D) → a ≡ b → r ≡ f b x y → r ≡ f a x y
-told_3 {A} f a b x y r e h = h ∙ sym (ap (λ (z : A). f z x y) e)
-
-pub told_4 : {A B C D E : Type 0} (f : A → B → C → D → E) (a b : A) (x : B) (y : C) (z : D) (r : E) → a ≡ b → r ≡ f b x y z → r ≡ f a x y z
-told_4 {A} f a b x y z r e h = h ∙ sym (ap (λ (w : A). f w x y z) e)
-
-pub told_5 : {A B C D E F : Type 0} (f : A → B → C → D → E → F) (a b : A) (x : B) (y : C) (z : D) (u : E) (r : F) → a ≡ b → r ≡ f b x y z u → r ≡ f a x y z u
-told_5 {A} f a b x y z u r e h = h ∙ sym (ap (λ (w : A). f w x y z u) e)
-
 pub ruleset tests = (pick_true, pick_false, lt-ltb, le-ltb, le-leb, lt-leb, eq-eqb, ne_eqb)
 
 -- in the definition's order, with calls
@@ -141,6 +124,3 @@ pub ruleset exits = (rules, pick_true, pick_false, lt-ltb, le-ltb, eq-eqb, ne_eq
 
 -- no calls; the definition in any order, with `&&`, `||`, `not`
 pub ruleset wide = (rules, tests, other, not_so, not_otherwise, or_first, or_second, or_none, and_both, and_first, and_second)
-
--- a test of a number that a call gave
-pub ruleset came = (came_lt, came_ge, came_gt, came_le, came_eq, came_ne)

@@ -7,10 +7,7 @@ use native.Mathlib.Numerals.{add-one}
 use native.Mathlib.Omega.{arith}
 use lib.ListN.{length, get_or, take, drop, length-take, length-drop, take-append-drop, drop_of_length-le, get_or-append}
 use lib.Seq.{length-take-le, take_all, take_at, drop_at, drop-cons, drop-drop, get_or-drop, get_or-take, take-append-le, drop-append-le}
-use lib.Dec.{ltb}
-use borrow.Author.Rules.{rules}
 use borrow.Author.Tests.{lt-ltb, le-ltb, eq-eqb, eqb-true}
-use Rattle.octets.specs.Choice.{pick}
 use Rattle.octets.specs.Lists.{sized, part}
 use Rattle.octets.specs.Octets.{octet_is, same, stands_at, pair_of, number_at, all_hex, hex_stands}
 use Rattle.octets.specs.declared.Order.{Order}
@@ -23,21 +20,6 @@ rest_all p i = take_all (length p - i) (drop i p) (omega (arith, length-drop i p
 
 pub rest_none : (p : List ℕ) (i : ℕ) → length p ≤ i → [] ≡ drop i p
 rest_none p i h = sym (drop_of_length-le p h)
-
-pub part_front : (r t : List ℕ) (n : ℕ) → r ≡ t → take (n - 0) r ≡ take n t
-part_front r t n e = let h : n - 0 ≡ n = omega arith in rw (h, e)
-
-pub part_all : (r t : List ℕ) (n : ℕ) → r ≡ t → length r ≤ n → r ≡ take n t
-part_all r t n e h = e ∙ sym (take_all n t (rw e at h))
-
--- n digits of a part that may be shorter
-pub hex_short : (either : Bool) (r t : List ℕ) (n : ℕ) → r ≡ t → length r < n → false ≡ pick (ltb (length t) n) false (all_hex either t)
-hex_short either r t n e h = sym (pick_true _ _ _ (lt-ltb _ _ (rw e at h)))
-
-pub hex_long : (either a : Bool) (r t : List ℕ) (n : ℕ) → r ≡ t → n ≤ length r → a ≡ all_hex either r → a ≡ pick (ltb (length t) n) false (all_hex either t)
-hex_long either a r t n e h k = k ∙ ap (all_hex either) e ∙ sym (pick_false _ _ _ (le-ltb _ _ (rw e at h)))
-
-pub ruleset parts = (rules, rest_all, rest_none, part_front, part_all, hex_short, hex_long)
 
 -- ---- the number of two octets that lie in a part
 pub number_take : (o : Order) (n : ℕ) (p : List ℕ) (i : ℕ) → i + 1 < n → number_at o (take n p) i ≡ number_at o p i

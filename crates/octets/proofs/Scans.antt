@@ -1,60 +1,43 @@
--- The steps of this crate's loops, what its tests tell, and one answer for all: `search octets`.
+-- What this crate's loops and iterators give.
 use Prim.Native.Nat.{ℕ, zero, suc, ◌+◌, ◌-◌, ◌*◌, ◌<◌, ◌≤◌}
 use mathlib.Core.Path.{◌≡◌, refl, sym, ap, ◌∙◌}
-use mathlib.Core.List.{List, [], ◌∷◌}
+use mathlib.Core.List.{List, [], ◌∷◌, ◌++◌}
 use mathlib.Core.Bool.{Bool, true, false}
 use native.Mathlib.Nat.{add-zero, add-suc, le_refl}
 use native.Mathlib.Numerals.{add-one}
 use native.Mathlib.Omega.{arith}
-use lib.ListN.{length, get_or, take, drop, set, length-append, length-take, length-drop, drop_of_length-le, get_or-eq_default}
-use lib.Seq.{drop-cons, get_or-take, take-append_seam}
+use lib.ListN.{replicate, length, get_or, take, drop, length-take, length-drop, drop_of_length-le, get_or-eq_default}
+use lib.Seq.{drop-cons, get_or-take, ext_get_or}
 use lib.Dec.{eqb}
 use lib.Bits.{bit_or, bit_xor, or_zero_r, xor_self, or_add_and, xor_add_and, and_le_l, and_le_r}
+use borrow.Author.Rules.{rules}
 use borrow.Author.Tests.{eq-eqb, ne_eqb, eqb-true}
+use Rattle.std.specs.List.{list_all}
+use Rattle.std.specs.Fn.{Called}
+use Rattle.std.specs.Array.{IsFromFnResult, IsFromFnResultFrom}
+use Rattle.std.proofs.lemmas.List.{drop-replicate}
+use denote.Param.Members.{Mut}
 use Rattle.octets.specs.Choice.{pick}
-use Rattle.octets.specs.Lists.{sized, over, put}
-use Rattle.octets.specs.declared.Order.{Order}
-use Rattle.octets.specs.Octets.{pair_of, number_at, same, is_hex, all_hex, hex_value, unhex_at, is_digit, digits, digit_value, number_from}
-use Rattle.octets.proofs.Exits.{exits, pick_true, pick_false}
-use Rattle.octets.proofs.Lists.{cells_same, sized_own, put_front}
-use Rattle.octets.proofs.Loops.{Filled, fill_more, fill_done, loops}
+use Rattle.octets.specs.Lists.{cells, sized}
+use Rattle.octets.specs.Octets.{same, is_hex, all_hex, hex_value, unhex_at, is_digit, digits, digit_value, number_from}
+use Rattle.octets.proofs.Exits.{pick_true, pick_false, tested}
+use Rattle.octets.proofs.Lists.{length_cells, get_or_cells, cells_same, over_zeros}
 
 pub get_or_past : (s : List ℕ) (i : ℕ) → length s ≤ i → 0 ≡ get_or s i 0
 get_or_past s i h = sym (get_or-eq_default s 0 h)
 
 -- ---- a slice filled by what another has, and then by zeros
-pub record Filling (src : List ℕ) (n : ℕ) (dst : List ℕ) (i : ℕ) : Type 0 where
-  pub past : length (take n src) ≤ i
-  pub filled : Filled n (λ k. get_or src k 0) dst i
-
-pub fill_copied : (d src t l : List ℕ) (n : ℕ) → n ≡ length d → t ≡ take n (drop 0 src) → l ≡ put d 0 t → Filling src n l (length t)
+sized_front : (n : ℕ) (s : List ℕ) → sized n (take n s) ≡ sized n s
 unfolding sized
-fill_copied d src t l n e f g =
-    let k : length t ≤ n = omega (arith, ap length f, length-take n src) in
-    let o : l ≡ over t d = g ∙ put_front d t (omega arith) in
-    let long : length l ≡ n = ap length o ∙ length-append t (drop (length t) d) ∙ omega (arith, length-drop (length t) d) in
-    let at : (j : ℕ) → j < length t → get_or t j 0 ≡ get_or src j 0 = λ j h. ap (λ (x : List ℕ). get_or x j 0) f ∙ get_or-take n src j 0 (omega arith) in
-    record {
-      past = omega (arith, ap length f);
-      filled = record {
-        long = long;
-        most = k;
-        front = ap (take (length t)) o ∙ take-append_seam t (drop (length t) d) ∙ sym (sized_own (length t) t refl) ∙ cells_same (length t) _ _ at;
-      };
-    }
+sized_front n s = cells_same n _ _ (λ j l. get_or-take n s j 0 l)
 
-pub fill_zeroed : {src dst : List ℕ} {n i : ℕ} → Filling src n dst i → i < n → Filling src n (set dst i 0) (i + 1)
-fill_zeroed {src} {dst} {n} {i} p h = record { past = omega arith; filled = fill_more p.filled h (get_or_past src i (omega (arith, length-take n src))) }
-
-pub fill_sized : {src dst : List ℕ} {n i : ℕ} → Filling src n dst i → n ≤ i → dst ≡ sized n src
-unfolding sized
-fill_sized p h = fill_done p.filled h
-
-pub number_past : (o : Order) (p : List ℕ) (i r : ℕ) → length p ≤ i → r ≡ pair_of o 0 0 → r ≡ number_at o p i
-unfolding number_at
-number_past o p i r h e =
-    let k : length p ≤ i + 1 = omega arith in
-    e ∙ (λ j. pair_of o (get_or_past p i h j) (get_or_past p (i + 1) k j))
+pub fill_zeros : (d src t f z : List ℕ) → t ≡ take (length d) (drop 0 src) → f ≡ t → z ≡ replicate (length (drop (length t) d)) 0 → f ++ z ≡ sized (length d) src
+fill_zeros d src t f z e g h =
+    let n = length d in
+    let k : length t ≤ n = omega (arith, ap length e, length-take n src) in
+    let m : length (drop (length t) d) ≡ n - length t = length-drop (length t) d in
+    let w : drop (length t) (replicate n 0) ≡ z = drop-replicate (length t) n 0 ∙ sym (h ∙ ap (λ (j : ℕ). replicate j 0) m) in
+    ap (λ (x : List ℕ). x ++ z) g ∙ ap (λ (x : List ℕ). t ++ x) (sym w) ∙ over_zeros n t k ∙ ap (sized n) e ∙ sized_front n src
 
 -- ---- equality
 pub same_refl : (a : List ℕ) → same a a ≡ true
@@ -138,17 +121,10 @@ compare_done {a} {b} {d} {i} p h =
     sym (p.is ∙ simp (drop_of_length-le a h, drop_of_length-le b k) (whole (eqb d 0)))
 
 -- ---- hex digits
-pub hex_more : (either : Bool) (s : List ℕ) (i : ℕ) → i < length s → is_hex either (get_or s i 0) ≡ true → all_hex either (drop i s) ≡ all_hex either (drop (i + 1) s)
-unfolding all_hex
-hex_more either s i h e = rw (add-one, drop-cons s i 0 h) (pick_true _ _ _ e)
-
-pub hex_not : (either : Bool) (s : List ℕ) (i : ℕ) → i < length s → is_hex either (get_or s i 0) ≡ false → all_hex either (drop i s) ≡ false
-unfolding all_hex
-hex_not either s i h e = rw (drop-cons s i 0 h) (pick_false _ _ _ e)
-
-pub hex_done : (either : Bool) (s : List ℕ) (i : ℕ) → length s ≤ i → all_hex either (drop i s) ≡ true
-unfolding all_hex
-hex_done either s i h = simp (drop_of_length-le s h)
+pub hex_all : (either : Bool) (s : List ℕ) → list_all (is_hex either) s ≡ all_hex either s
+unfolding all_hex pick
+hex_all either [] = refl
+hex_all either (x ∷ xs) = tested (is_hex either x) (λ t. rw t (hex_all either xs)) (λ t. rw t)
 
 pub unhex_past : (d : List ℕ) (k : ℕ) → length d ≤ k → 0 ≡ unhex_at d k
 unfolding unhex_at hex_value pick
@@ -158,17 +134,13 @@ unhex_past d k h =
     rw (← get_or_past d (k * 2) e, ← get_or_past d (k * 2 + 1) f)
 
 -- ---- decimal digits
-pub digits_more : (s : List ℕ) (i : ℕ) → i < length s → is_digit (get_or s i 0) ≡ true → i + digits (drop i s) ≡ i + 1 + digits (drop (i + 1) s)
+pub digits_hit : (x : ℕ) (xs : List ℕ) → is_digit x ≡ false → digits (x ∷ xs) ≡ 0
 unfolding digits
-digits_more s i h e = rw (add-one, drop-cons s i 0 h) (simp (e, pick_true) (omega arith))
+digits_hit x xs e = pick_false _ _ _ e
 
-pub digits_here : (s : List ℕ) (i : ℕ) → i < length s → is_digit (get_or s i 0) ≡ false → i + digits (drop i s) ≡ i
+pub digits_miss : (x : ℕ) (xs : List ℕ) → is_digit x ≡ true → digits (x ∷ xs) ≡ digits xs + 1
 unfolding digits
-digits_here s i h e = rw (drop-cons s i 0 h) (simp (e, pick_false) (omega arith))
-
-pub digits_done : (s : List ℕ) (i : ℕ) → length s ≤ i → i + digits (drop i s) ≡ i
-unfolding digits
-digits_done s i h = simp (drop_of_length-le s h) (omega arith)
+digits_miss x xs e = pick_true _ _ _ e ∙ omega arith
 
 -- powers of ten
 unfoldable pub ten : ℕ → ℕ
@@ -218,4 +190,20 @@ pub number_done : {s : List ℕ} {acc i : ℕ} → Numbered s acc i → length s
 unfolding number_from
 number_done {s} {acc} {i} p h = sym (p.is ∙ simp (drop_of_length-le s h))
 
-pub ruleset octets = (exits, loops, get_or_past, same_other, compare_none, compare_more, compare_done, hex_more, hex_not, hex_done, digits_more, digits_here, digits_done, number_none, number_more, number_done)
+pub ruleset numbering = (rules, number_none, number_more, number_done)
+
+-- ---- an array whose places a closure gives
+module _ {F : Type 0} (g : Mut F (ℕ × Unit {0}) ℕ) (h : ℕ → ℕ) (f : F) (pure : (i r : ℕ) (q : F) → Called g f (i, tt) r q → (q ≡ f) × (r ≡ h i)) where
+  each_from_fn : (f' : F) (ys : List ℕ) (i n k : ℕ) → f' ≡ f → IsFromFnResultFrom g f' ys i n → k < n → get_or ys (i + k) 0 ≡ h (i + k)
+  each_from_fn f' ys i zero k e p l = absurd (omega arith)
+  each_from_fn f' ys i (suc n) zero e p l =
+      let z : i + 0 ≡ i = omega arith in
+      rw z (p.2.1 0 ∙ (pure i p.1 p.0 (rw e at p.3)).1)
+  each_from_fn f' ys i (suc n) (suc k) e p l =
+      let z : i + suc k ≡ i + 1 + k = omega arith in
+      rw z (each_from_fn p.0 ys (i + 1) n k (pure i p.1 p.0 (rw e at p.3)).0 p.4 (omega arith))
+
+  pub cells_from_fn : (ys : List ℕ) (n : ℕ) → IsFromFnResult g f ys n → ys ≡ cells n h
+  cells_from_fn ys n p =
+      ext_get_or 0 ys (cells n h) (p.long ∙ sym (length_cells n h))
+      (λ k l. let z : 0 + k ≡ k = omega arith in rw z at (each_from_fn f ys 0 n k refl p.each (omega (arith, p.long))) ∙ sym (get_or_cells n h k (omega (arith, p.long))))

@@ -1,4 +1,3 @@
 pub mod Choice
 pub mod Lists
 pub mod Octets
-pub mod Inner

@@ -4,20 +4,19 @@ use mathlib.Core.Path.{◌≡◌, refl, sym, ap, ◌∙◌}
 use mathlib.Core.Bool.{Bool, true, false, not, ◌&&◌, ◌||◌}
 use mathlib.Core.List.{List, ◌++◌}
 use native.Mathlib.Omega.{arith}
-use lib.ListN.{length, get_or, take, drop, length-append, length-take}
+use lib.ListN.{length, get_or, take, length-append}
 use lib.Seq.{length-take-le, take_at}
 use lib.Dec.{ltb, eqb}
 use borrow.Author.Tests.{ltb-true, ltb-false, lt-ltb, le-ltb}
+use Rattle.std.specs.Prelude.{Result, Ok, Err}
 use Rattle.octets.specs.Choice.{pick}
-use Rattle.octets.proofs.Exits.{arms, picked, tested, pick_true, pick_false, or_first, or_none}
+use Rattle.octets.proofs.Exits.{wide, arms, picked, tested, pick_true, pick_false, or_first, or_none}
 use Rattle.octets.proofs.Scans.{get_or_past}
 use Rattle.answer.specs.declared.Refusal.{Refusal}
 use Rattle.answer.specs.Answer.{refusal_of}
 use Rattle.answer.specs.Outcome.{Told, gives, refuses}
 use Rattle.answer.specs.Sizes.{max_packet}
 use Rattle.answer.proofs.Told.{refusal_some}
-use Rattle.packet.specs.declared.Framed.{Framed}
-use Rattle.packet.specs.declared.Framed.TheVariants as frame
 use Rattle.packet.specs.Frame.{code_of, length_of, cut_of, with_type, framed, typed, frame_of, told_frame}
 
 pub neither : (a b : Bool) → (a || b) ≡ false → (a ≡ false) × (b ≡ false)
@@ -73,10 +72,10 @@ module _ {A : Type 0} (refuse : ℕ → A) (next : List ℕ → A) where
       go false false true h = refl
       go false false false h = ap next (h refl)
 
-  pub frame_refused : (r : Framed) (p : List ℕ) (w : Refusal) → told_frame r ≡ frame_of p → r ≡ frame.Refused w → framed refuse next p ≡ refuse (refusal_of w)
+  pub frame_refused : (r : Result ℕ Refusal) (p : List ℕ) (w : Refusal) → told_frame r ≡ frame_of p → r ≡ Err w → framed refuse next p ≡ refuse (refusal_of w)
   frame_refused r p w is e = framed_on p ∙ ap (on_frame p) (sym is ∙ ap told_frame e) ∙ pick_false _ _ _ (refusal_some w)
 
-  pub frame_of_lem : (r : Framed) (p : List ℕ) (l : ℕ) → told_frame r ≡ frame_of p → r ≡ frame.Of l → framed refuse next p ≡ next (take l p)
+  pub frame_of_lem : (r : Result ℕ Refusal) (p : List ℕ) (l : ℕ) → told_frame r ≡ frame_of p → r ≡ Ok l → framed refuse next p ≡ next (take l p)
   unfolding pick
   frame_of_lem r p l is e = framed_on p ∙ ap (on_frame p) (sym is ∙ ap told_frame e)
 
@@ -106,10 +105,4 @@ frame_by p l t e h =
     go false false false true h = refl
     go false false false false h = ap gives (h refl)
 
--- a packet is at most 1,020 octets
-pub frame_most : (r : Framed) (p q : List ℕ) (l : ℕ) → told_frame r ≡ frame_of p → r ≡ frame.Of l → q ≡ take l (drop 0 p) → length q ≤ max_packet
-unfolding frame_of
-frame_most r p q l is e c =
-    let n : gives l ≡ frame_of p = ap told_frame (sym e) ∙ is in
-    let m : (frame_of p).value ≤ max_packet = framed_so (λ (k : ℕ). refuses k 0) (λ (q : List ℕ). gives (length q)) (λ (t : Told ℕ). t.value ≤ max_packet) p (omega arith) (omega arith) (omega arith) (λ f. let h = f.most in omega (arith, length-take (length_of p) p)) in
-    omega (arith, ap (λ (t : Told ℕ). t.value) n, ap length c, length-take l p)
+pub ruleset frames = (frame_short, frame_by, wide)

@@ -8,6 +8,7 @@ use lib.ListN.{length, take, drop}
 use lib.Seq.{length-take-le, take-add, drop_at}
 use lib.Dec.{eqb}
 use borrow.Author.Tests.{ne_eqb}
+use Rattle.std.specs.Prelude.{Result, Ok, Err}
 use Rattle.octets.specs.Lists.{part}
 use Rattle.octets.proofs.Exits.{pick_true, pick_false, arms, clash, tested}
 use Rattle.answer.specs.declared.Refusal.{Refusal}
@@ -20,8 +21,6 @@ use Rattle.packet.specs.declared.Kind.{Kind}
 use Rattle.packet.specs.declared.Kind.TheVariants.{Challenge, Response, SuccessRequest, FailureRequest, RetryRequest, SuccessResponse, FailureResponse, EapSuccess, EapFailure}
 use Rattle.packet.specs.declared.Packet.{Packet}
 use Rattle.packet.specs.declared.Place.{Place}
-use Rattle.packet.specs.declared.Reading.{Reading}
-use Rattle.packet.specs.declared.Reading.TheVariants.{Refused, Read}
 use Rattle.packet.specs.Frame.{length_of}
 use Rattle.packet.specs.Kinds.{has_text}
 use Rattle.packet.specs.Learned.{Learned, Learns}
@@ -33,11 +32,11 @@ use Rattle.packet.proofs.Places.{reading_tells}
 use Rattle.packet.proofs.Readings.{read_or_refused}
 
 -- ---- of a reading
-pub text_refused : (x : Reading) (why : Refusal) → x ≡ Refused why → nowhere ≡ text_told (told_reading x)
+pub text_refused : (x : Result Packet Refusal) (why : Refusal) → x ≡ Err why → nowhere ≡ text_told (told_reading x)
 unfolding text_told
 text_refused x why e = rw e (sym (pick_false _ _ _ (refusal_some why)))
 
-pub text_read : (x : Reading) (k : Packet) (a : Place) → x ≡ Read k → a ≡ text_in k → a ≡ text_told (told_reading x)
+pub text_read : (x : Result Packet Refusal) (k : Packet) (a : Place) → x ≡ Ok k → a ≡ text_in k → a ≡ text_told (told_reading x)
 unfolding text_told
 text_read x k a e h = rw e (h ∙ sym (pick_true _ _ _ refl))
 

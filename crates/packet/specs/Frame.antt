@@ -1,13 +1,12 @@
 -- 01, "What a call answers": 10 to 14, of any packet of EAP and over whatever follows. A refusal k gives `refuse k`.
-use Rattle.std.specs.Prelude.{ℕ, List, Bool, not, ◌&&◌, ◌||◌, length, get_or, take, ltb, eqb}
+use Rattle.std.specs.Prelude.{ℕ, List, Bool, Result, not, ◌&&◌, ◌||◌, length, get_or, take, ltb, eqb}
 use Rattle.octets.specs.Choice.{pick}
 use Rattle.octets.specs.Octets.{number_at}
 use Rattle.octets.specs.declared.Order.TheVariants.{Big}
-use Rattle.answer.specs.Answer.{refusal_of}
+use Rattle.answer.specs.Results.{told_by}
+use Rattle.answer.specs.declared.Refusal.{Refusal}
 use Rattle.answer.specs.Outcome.{Told, gives, refuses}
 use Rattle.answer.specs.Sizes.{max_packet}
-use Rattle.packet.specs.declared.Framed.{Framed}
-use Rattle.packet.specs.declared.Framed.TheVariants.{Refused, Of}
 
 abbrev pub code_of : List ℕ → ℕ
 code_of q = get_or q 0 0
@@ -44,6 +43,5 @@ module _ {A : Type 0} (refuse : ℕ → A) where
 unfoldable pub frame_of : List ℕ → Told ℕ
 frame_of p = framed (λ k. refuses k 0) (λ q. gives (length q)) p
 
-abbrev pub told_frame : Framed → Told ℕ
-told_frame (Refused why) = refuses (refusal_of why) 0
-told_frame (Of l) = gives l
+abbrev pub told_frame : Result ℕ Refusal → Told ℕ
+told_frame = told_by (λ l. l) 0

@@ -1,10 +1,11 @@
 -- What a packet reads as, at each end. 01, "What a call answers": 10 to 17, in that order; "Packet forms": the table, row by row.
-use Rattle.std.specs.Prelude.{ℕ, ◌+◌, ◌-◌, List, Bool, true, false, not, ◌&&◌, ◌||◌, length, get_or, drop, ltb, leb, eqb}
+use Rattle.std.specs.Prelude.{ℕ, ◌+◌, ◌-◌, List, Bool, Result, true, false, not, ◌&&◌, ◌||◌, length, get_or, drop, ltb, leb, eqb}
 use Rattle.octets.specs.Choice.{pick}
 use Rattle.octets.specs.Lists.{part, sized}
 use Rattle.octets.specs.Octets.{octet_is, stands_at, number_at, hex_stands, digits, number}
 use Rattle.octets.specs.declared.Order.TheVariants.{Big}
-use Rattle.answer.specs.Answer.{refusal_of}
+use Rattle.answer.specs.Results.{told_by}
+use Rattle.answer.specs.declared.Refusal.{Refusal}
 use Rattle.answer.specs.Outcome.{Told, gives, refuses}
 use Rattle.answer.specs.Sizes.{max_name}
 use Rattle.packet.specs.Forms.{challenge_name_at, response_name_at, success_tail_at, success_text_at, word_s, word_e, word_r, word_c, word_v, word_m, eight_zeros}
@@ -15,8 +16,6 @@ use Rattle.packet.specs.declared.Kind.{Kind}
 use Rattle.packet.specs.declared.Kind.TheVariants.{Challenge, Response, SuccessRequest, FailureRequest, RetryRequest, SuccessResponse, FailureResponse, EapSuccess, EapFailure}
 use Rattle.packet.specs.declared.Place.{Place}
 use Rattle.packet.specs.declared.Packet.{Packet}
-use Rattle.packet.specs.declared.Reading.{Reading}
-use Rattle.packet.specs.declared.Reading.TheVariants.{Refused, Read}
 
 abbrev pub place : ℕ → ℕ → Place
 place start len = record { start = start; len = len }
@@ -54,9 +53,8 @@ no_packet = reading Challenge 0 0 0 0 nowhere nowhere nowhere
 abbrev pub refusal : ℕ → Told Packet
 refusal k = refuses k no_packet
 
-abbrev pub told_reading : Reading → Told Packet
-told_reading (Refused why) = refusal (refusal_of why)
-told_reading (Read x) = gives x
+abbrev pub told_reading : Result Packet Refusal → Told Packet
+told_reading = told_by (λ x. x) no_packet
 
 -- ---- 16 and 17: the rows of the table. q is a packet, cut at L
 -- 16 "L under 9, or MS-Length not L - 5 (first four packets)", 17 "the rest breaks its form above"; the name or text goes from tail to L

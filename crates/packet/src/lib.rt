@@ -1,16 +1,15 @@
 // The packets of document 01, "Packet forms", and their reader.
 #![tactic(auto)]
 
-ghost use Rattle.std.specs.Prelude.{◌≡◌, false, not, ◌&&◌, ◌||◌, ◌+◌, ◌-◌, ◌≤◌, length, get_or, drop, ltb, leb, eqb};
-ghost use Rattle.octets.specs.Lists.{cells, sized, part};
-ghost use Rattle.octets.specs.Octets.{octet_is, number_at, number, unhex_at};
+ghost use Rattle.std.specs.Prelude.{◌≡◌, MatchResult, true, false, not, ◌&&◌, ◌||◌, ◌+◌, ◌-◌, length, get_or, drop, ltb, leb, eqb};
+ghost use Rattle.octets.specs.Lists.{cells, part};
+ghost use Rattle.octets.specs.Octets.{octet_is, number_at, digits, number, unhex_at};
 ghost use Rattle.octets.specs.declared.Order.TheVariants as order;
-ghost use Rattle.answer.specs.Outcome.{gives};
-ghost use Rattle.answer.specs.Sizes.{max_packet};
+ghost use Rattle.answer.specs.declared.Refusal.TheVariants.{BadType, BadMsLength, BadForm};
 ghost use Rattle.packet.specs.Frame.{frame_of, told_frame};
-ghost use Rattle.packet.specs.Kinds.{kind_number, is_kind, has_text};
-ghost use Rattle.packet.specs.Inner.{Counted, failure_read, failure_end, failure_rest, failure_middle, at_peer, at_server, at_end};
-ghost use Rattle.packet.specs.Reader.{place, reading, told_reading, challenge_formed, read_challenge, response_formed, read_response, success_formed, text_at, read_success, failure_of, read_failure, read_bare, read_cut, read_packet};
+ghost use Rattle.packet.specs.Kinds.{kind_number, has_text};
+ghost use Rattle.packet.specs.Inner.{RefusedIf, FailureFormed, FailureUnlike, request, reply};
+ghost use Rattle.packet.specs.Reader.{place, nowhere, at, reading, told_reading, challenge_formed, read_challenge, response_formed, read_response, success_formed, text_at, read_success, failure_of, read_failure, read_bare, read_cut, read_packet};
 ghost use Rattle.packet.specs.Texts.{text_in, text_told, text_part};
 
 use answer::{ChapId, Identifier, Refusal};
@@ -49,14 +48,14 @@ const NT_RESPONSE: Place = Place {
 const STRING: Place = Place { start: 11, len: 40 };
 
 // The end that a packet is read for.
-#[derive(Clone, Copy)]
+#[derive(Clone, Copy, PartialEq, Eq)]
 pub enum End {
     Peer,
     Server,
 }
 
 // A Failure Request has R=0, a Retry Request is a Failure Request with R=1.
-#[derive(Clone, Copy)]
+#[derive(Clone, Copy, PartialEq, Eq)]
 pub enum Kind {
     Challenge,
     Response,
@@ -70,27 +69,22 @@ pub enum Kind {
 }
 
 // The number of a kind.
-pub fn kind_number(kind: Kind) -> u8
-    ensures { result ≡ kind_number kind }
-{
-    match kind {
-        Kind::Challenge => 0,
-        Kind::Response => 1,
-        Kind::SuccessRequest => 2,
-        Kind::FailureRequest => 3,
-        Kind::RetryRequest => 4,
-        Kind::SuccessResponse => 5,
-        Kind::FailureResponse => 6,
-        Kind::EapSuccess => 7,
-        Kind::EapFailure => 8,
-    }
-}
+impl From<Kind> for u8 {
+    ghost from_gives = { λ kind n. n ≡ kind_number kind };
 
-// Whether two packets are of one kind.
-pub fn is_kind(a: Kind, b: Kind) -> bool
-    ensures { result ≡ is_kind a b }
-{
-    kind_number(a) == kind_number(b)
+    fn from(kind: Kind) -> u8 {
+        match kind {
+            Kind::Challenge => 0,
+            Kind::Response => 1,
+            Kind::SuccessRequest => 2,
+            Kind::FailureRequest => 3,
+            Kind::RetryRequest => 4,
+            Kind::SuccessResponse => 5,
+            Kind::FailureResponse => 6,
+            Kind::EapSuccess => 7,
+            Kind::EapFailure => 8,
+        }
+    }
 }
 
 // Where a part of a packet lies.
@@ -100,7 +94,17 @@ pub struct Place {
     pub len: usize,
 }
 
-// What a packet says. A number that its kind does not have is 0, and so are start and length of such a place.
+impl Place {
+    // The octets of a packet at this place, or as many as there are.
+    pub fn of(self, p: &[u8]) -> &[u8]
+        ensures { result.now ≡ at p.now self }
+    {
+        octets::part(p, self.start, self.len)
+    }
+}
+
+// What a packet says. A number that its kind does not have is 0, and so are start and length of such a place. One struct for all kinds:
+// C has it so, in 25 octets, and `Tells` and `Learned` speak of the three places of any kind.
 #[derive(Clone, Copy)]
 pub struct Packet {
     pub kind: Kind,
@@ -118,213 +122,182 @@ pub struct Packet {
     pub tail: Place,
 }
 
-#[derive(Clone, Copy)]
-pub enum Reading {
-    Refused(Refusal),
-    Read(Packet),
-}
-
-// L, or why the octets lent hold no packet of L octets.
-#[derive(Clone, Copy)]
-pub enum Framed {
-    Refused(Refusal),
-    Of(usize),
-}
-
-// 10 to 12, of any packet of EAP.
-pub fn frame(p: &[u8]) -> Framed
+// L of any packet of EAP, or 10 to 12.
+#[tactic(auto, using(crate::proofs::Frames::frames))]
+pub fn frame(p: &[u8]) -> Result<usize, Refusal>
     ensures { told_frame result ≡ frame_of p.now }
 {
     if p.len() < 4 {
-        return Framed::Refused(Refusal::Short);
+        return Err(Refusal::Short);
     }
     let l = octets::number_at(Order::Big, p, 2);
-    if l < 4 {
-        return Framed::Refused(Refusal::BadLength);
-    }
-    if p.len() < l {
-        return Framed::Refused(Refusal::BadLength);
+    if l < 4 || p.len() < l {
+        return Err(Refusal::BadLength);
     }
     if answer::MAX_PACKET < l {
-        return Framed::Refused(Refusal::TooLong);
+        return Err(Refusal::TooLong);
     }
-    Framed::Of(l)
+    Ok(l)
+}
+
+// Nothing where a test holds, and else why not.
+pub fn ensure<E: Copy>(holds: bool, why: E) -> Result<(), E>
+    ensures { MatchResult result (λ _. holds ≡ true) (λ e. (holds ≡ false) × (e ≡ why)) }
+{
+    if holds { Ok(()) } else { Err(why) }
 }
 
 // Number 16: L is under 9, or MS-Length is not L - 5.
-fn bad_ms_length(q: &[u8]) -> bool
-    ensures { result ≡ (ltb (length q.now) 9 || not (eqb (number_at order.Big q.now 7) (length q.now - 5))) }
+fn ms_length(q: &[u8]) -> Result<(), Refusal>
+    ensures { RefusedIf (ltb (length q.now) 9 || not (eqb (number_at order.Big q.now 7) (length q.now - 5))) BadMsLength result }
 {
-    let l = q.len();
-    if l < 9 {
-        return true;
+    if q.len() < 9 || octets::number_at(Order::Big, q, 7) != q.len() - 5 {
+        return Err(Refusal::BadMsLength);
     }
-    let m = octets::number_at(Order::Big, q, 7);
-    m != l - 5
+    Ok(())
+}
+
+// Number 17: the rest breaks its form.
+fn form(holds: bool) -> Result<(), Refusal>
+    ensures { RefusedIf (not holds) BadForm result }
+{
+    ensure(holds, Refusal::BadForm)
+}
+
+// A packet with an Identifier and no parts.
+fn bare_packet(kind: Kind, q: &[u8]) -> Packet
+    ensures { result ≡ reading kind (get_or q.now 1 0) 0 (length q.now) 0 nowhere nowhere nowhere }
+{
+    Packet {
+        kind,
+        id: Identifier(octets::octet(q, 1)),
+        chapid: ChapId(0),
+        length: q.len(),
+        error: 0,
+        challenge: NOWHERE,
+        response: NOWHERE,
+        tail: NOWHERE,
+    }
 }
 
 // A packet with an MS-CHAPv2-ID, whose name or text goes from tail to L.
-fn chap_read(
-    kind: Kind,
-    q: &[u8],
-    error: u64,
-    challenge: Place,
-    response: Place,
-    tail: usize,
-) -> Reading
-    ensures { told_reading result ≡ gives (reading kind (get_or q.now 1 0) (get_or q.now 6 0) (length q.now) error challenge response (place tail (length (drop tail q.now)))) }
+fn chap_packet(kind: Kind, q: &[u8], tail: usize) -> Packet
+    ensures { result ≡ reading kind (get_or q.now 1 0) (get_or q.now 6 0) (length q.now) 0 nowhere nowhere (place tail (length (drop tail q.now))) }
 {
-    let id = octets::octet(q, 1);
-    let chapid = octets::octet(q, 6);
-    let rest = octets::rest(q, tail);
-    Reading::Read(Packet {
-        kind,
-        id: Identifier(id),
-        chapid: ChapId(chapid),
-        length: q.len(),
-        error,
-        challenge,
-        response,
+    Packet {
+        chapid: ChapId(octets::octet(q, 6)),
         tail: Place {
             start: tail,
-            len: rest.len(),
+            len: octets::rest(q, tail).len(),
         },
-    })
+        ..bare_packet(kind, q)
+    }
 }
 
+#[tactic(auto, using(octets::proofs::Exits::wide), unfolding(crate::specs::Reader::challenge_formed))]
 fn challenge_formed(q: &[u8]) -> bool
     ensures { result ≡ challenge_formed q.now }
 {
-    if q.len() <= CHALLENGE_NAME_AT {
-        return false;
-    }
-    octets::octet_is(q, 9, 16)
+    CHALLENGE_NAME_AT < q.len() && octets::octet_is(q, 9, 16)
 }
 
-fn read_challenge(q: &[u8]) -> Reading
+#[tactic(auto, using(crate::proofs::Steps::rows), unfolding(crate::specs::Reader::read_challenge))]
+fn read_challenge(q: &[u8]) -> Result<Packet, Refusal>
     ensures { told_reading result ≡ read_challenge q.now }
 {
-    if bad_ms_length(q) {
-        return Reading::Refused(Refusal::BadMsLength);
-    }
-    if !challenge_formed(q) {
-        return Reading::Refused(Refusal::BadForm);
-    }
-    chap_read(Kind::Challenge, q, 0, CHALLENGE, NOWHERE, CHALLENGE_NAME_AT)
+    ms_length(q)?;
+    form(challenge_formed(q))?;
+    Ok(Packet {
+        challenge: CHALLENGE,
+        ..chap_packet(Kind::Challenge, q, CHALLENGE_NAME_AT)
+    })
 }
 
 #[tactic(auto, using(octets::proofs::Exits::exits), unfolding(crate::specs::Reader::response_formed))]
-fn response_formed(q: &[u8]) -> bool
-    ensures { result ≡ response_formed q.now }
+fn response_form(q: &[u8]) -> Result<(), Refusal>
+    ensures { RefusedIf (not (response_formed q.now)) BadForm result }
 {
-    if q.len() < RESPONSE_NAME_AT {
-        return false;
-    }
-    if MAX_RESPONSE < q.len() {
-        return false;
-    }
-    if !octets::octet_is(q, 9, 49) {
-        return false;
-    }
-    if !octets::stands_at(q, 26, &[0, 0, 0, 0, 0, 0, 0, 0]) {
-        return false;
-    }
-    octets::octet_is(q, 58, 0)
+    form((RESPONSE_NAME_AT..=MAX_RESPONSE).contains(&q.len()))?;
+    form(octets::octet_is(q, 9, 49))?;
+    form(octets::stands_at(q, 26, &[0; 8]))?;
+    form(octets::octet_is(q, 58, 0))
 }
 
-fn read_response(q: &[u8]) -> Reading
+#[tactic(auto, using(crate::proofs::Steps::rows), unfolding(crate::specs::Reader::read_response))]
+fn read_response(q: &[u8]) -> Result<Packet, Refusal>
     ensures { told_reading result ≡ read_response q.now }
 {
-    if bad_ms_length(q) {
-        return Reading::Refused(Refusal::BadMsLength);
-    }
-    if !response_formed(q) {
-        return Reading::Refused(Refusal::BadForm);
-    }
-    chap_read(
-        Kind::Response,
-        q,
-        0,
-        CHALLENGE,
-        NT_RESPONSE,
-        RESPONSE_NAME_AT,
-    )
+    ms_length(q)?;
+    response_form(q)?;
+    Ok(Packet {
+        challenge: CHALLENGE,
+        response: NT_RESPONSE,
+        ..chap_packet(Kind::Response, q, RESPONSE_NAME_AT)
+    })
 }
 
-#[tactic(auto, using(octets::proofs::Exits::exits), unfolding(crate::specs::Reader::success_formed))]
+#[tactic(auto, using(octets::proofs::Exits::wide), unfolding(crate::specs::Reader::success_formed))]
 fn success_formed(q: &[u8]) -> bool
     ensures { result ≡ success_formed q.now }
 {
-    if !octets::stands_at(q, 9, b"S=") {
-        return false;
-    }
-    if !octets::hex_stands(false, q, 11, 40) {
-        return false;
-    }
-    if q.len() == SUCCESS_TAIL_AT {
-        return true;
-    }
-    octets::stands_at(q, SUCCESS_TAIL_AT, b" M=")
+    octets::stands_at(q, 9, b"S=")
+        && octets::hex_stands(false, q, 11, 40)
+        && (q.len() == SUCCESS_TAIL_AT || octets::stands_at(q, SUCCESS_TAIL_AT, b" M="))
 }
 
 // Where the text starts: at L where there is no tail.
+#[tactic(auto, using(octets::proofs::Exits::wide), unfolding(crate::specs::Reader::text_at))]
 fn text_at(q: &[u8]) -> usize
     ensures { result ≡ text_at q.now }
 {
-    if q.len() != SUCCESS_TAIL_AT {
-        return SUCCESS_TEXT_AT;
+    if q.len() == SUCCESS_TAIL_AT {
+        SUCCESS_TAIL_AT
+    } else {
+        SUCCESS_TEXT_AT
     }
-    SUCCESS_TAIL_AT
 }
 
-fn read_success(q: &[u8]) -> Reading
+#[tactic(auto, using(crate::proofs::Steps::rows), unfolding(crate::specs::Reader::read_success))]
+fn read_success(q: &[u8]) -> Result<Packet, Refusal>
     ensures { told_reading result ≡ read_success q.now }
 {
-    if bad_ms_length(q) {
-        return Reading::Refused(Refusal::BadMsLength);
-    }
-    if !success_formed(q) {
-        return Reading::Refused(Refusal::BadForm);
-    }
-    let text = text_at(q);
-    chap_read(Kind::SuccessRequest, q, 0, NOWHERE, STRING, text)
+    ms_length(q)?;
+    form(success_formed(q))?;
+    Ok(Packet {
+        response: STRING,
+        ..chap_packet(Kind::SuccessRequest, q, text_at(q))
+    })
 }
 
 // Whether n is 1 to 10.
 pub fn few_digits(n: usize) -> bool
     ensures { result ≡ (leb 1 n && leb n 10) }
 {
-    if n < 1 {
-        return false;
-    }
-    n <= 10
+    (1..=10).contains(&n)
 }
 
 // Whether the digit 0 or 1 stands at i.
 pub fn is_bit(q: &[u8], i: usize) -> bool
     ensures { result ≡ (octet_is q.now i 48 || octet_is q.now i 49) }
 {
-    if octets::octet_is(q, i, 48) {
-        return true;
-    }
-    octets::octet_is(q, i, 49)
+    octets::octet_is(q, i, b'0') || octets::octet_is(q, i, b'1')
 }
 
 // The kind of a Failure Request, by the digit of R at i.
+#[tactic(auto, using(crate::proofs::Steps::retry_so, crate::proofs::Steps::no_retry))]
 fn failure_kind(q: &[u8], i: usize) -> Kind
     ensures { result ≡ failure_of (get_or q.now i 0 - 48) }
 {
-    let digit = octets::octet(q, i);
-    if digit == 49 {
-        return Kind::RetryRequest;
+    if octets::octet_is(q, i, b'1') {
+        Kind::RetryRequest
+    } else {
+        Kind::FailureRequest
     }
-    Kind::FailureRequest
 }
 
 // How many digits stand at i.
-fn digits_at(q: &[u8], i: usize) -> usize
-    requires { length q.now ≤ max_packet }
-    ensures { Counted q.now i result }
+pub fn digits_at(q: &[u8], i: usize) -> usize
+    ensures { result ≡ digits (drop i q.now) }
 {
     octets::digits_of(octets::rest(q, i))
 }
@@ -340,253 +313,151 @@ fn decimal_at(q: &[u8], i: usize, n: usize) -> u64
 pub fn is_version(q: &[u8], i: usize, n: usize) -> bool
     ensures { result ≡ ((leb 1 n && leb n 10) && eqb (number (part q.now i n)) 3) }
 {
-    if !few_digits(n) {
-        return false;
-    }
-    let v = decimal_at(q, i, n);
-    v == 3
+    few_digits(n) && decimal_at(q, i, n) == 3
 }
 
-// A Failure Request with e digits of E and v of V.
-fn failure_read(q: &[u8], e: usize, v: usize) -> Reading
-    requires { (e ≤ max_packet) × (v ≤ max_packet) }
-    ensures { told_reading result ≡ failure_read q.now e v }
-{
-    let kind = failure_kind(q, 14 + e);
-    let error = decimal_at(q, 11, e);
-    let challenge = Place {
-        start: 18 + e,
-        len: 32,
-    };
-    chap_read(kind, q, error, challenge, NOWHERE, 56 + e + v)
+// How many digits E and V of a Failure Request have.
+#[derive(Clone, Copy)]
+struct Digits {
+    e: usize,
+    v: usize,
 }
 
-fn failure_end(q: &[u8], e: usize, v: usize) -> Reading
-    requires { (e ≤ max_packet) × (v ≤ max_packet) }
-    ensures { told_reading result ≡ failure_end q.now e v }
+#[tactic(auto, using(crate::proofs::Steps::forms), unfolding(crate::specs::Reader::failure_formed))]
+fn failure_digits(q: &[u8]) -> Result<Digits, Refusal>
+    ensures { MatchResult result (λ n. FailureFormed q.now n.e n.v) (λ why. FailureUnlike q.now × (why ≡ BadForm)) }
 {
-    if !is_version(q, 53 + e, v) {
-        return Reading::Refused(Refusal::BadForm);
-    }
-    if !octets::stands_at(q, 53 + e + v, b" M=") {
-        return Reading::Refused(Refusal::BadForm);
-    }
-    failure_read(q, e, v)
-}
-
-// From V on.
-fn failure_rest(q: &[u8], e: usize) -> Reading
-    requires { (e ≤ max_packet) × (length q.now ≤ max_packet) }
-    ensures { told_reading result ≡ failure_rest q.now e }
-{
+    form(octets::stands_at(q, 9, b"E="))?;
+    let e = digits_at(q, 11);
+    form(few_digits(e))?;
+    form(octets::stands_at(q, 11 + e, b" R="))?;
+    form(is_bit(q, 14 + e))?;
+    form(octets::stands_at(q, 15 + e, b" C="))?;
+    form(octets::hex_stands(true, q, 18 + e, 32))?;
+    form(octets::stands_at(q, 50 + e, b" V="))?;
     let v = digits_at(q, 53 + e);
-    failure_end(q, e, v)
+    form(is_version(q, 53 + e, v))?;
+    form(octets::stands_at(q, 53 + e + v, b" M="))?;
+    Ok(Digits { e, v })
 }
 
-// From the e digits of E on.
-fn failure_middle(q: &[u8], e: usize) -> Reading
-    requires { (e ≤ max_packet) × (length q.now ≤ max_packet) }
-    ensures { told_reading result ≡ failure_middle q.now e }
-{
-    if !few_digits(e) {
-        return Reading::Refused(Refusal::BadForm);
-    }
-    if !octets::stands_at(q, 11 + e, b" R=") {
-        return Reading::Refused(Refusal::BadForm);
-    }
-    if !is_bit(q, 14 + e) {
-        return Reading::Refused(Refusal::BadForm);
-    }
-    if !octets::stands_at(q, 15 + e, b" C=") {
-        return Reading::Refused(Refusal::BadForm);
-    }
-    if !octets::hex_stands(true, q, 18 + e, 32) {
-        return Reading::Refused(Refusal::BadForm);
-    }
-    if !octets::stands_at(q, 50 + e, b" V=") {
-        return Reading::Refused(Refusal::BadForm);
-    }
-    failure_rest(q, e)
-}
-
-fn read_failure(q: &[u8]) -> Reading
-    requires { length q.now ≤ max_packet }
+#[tactic(auto, using(crate::proofs::Steps::rows))]
+fn read_failure(q: &[u8]) -> Result<Packet, Refusal>
     ensures { told_reading result ≡ read_failure q.now }
 {
-    if bad_ms_length(q) {
-        return Reading::Refused(Refusal::BadMsLength);
-    }
-    if !octets::stands_at(q, 9, b"E=") {
-        return Reading::Refused(Refusal::BadForm);
-    }
-    let e = digits_at(q, 11);
-    failure_middle(q, e)
-}
-
-// A packet of l octets with nothing after its OpCode, or with no OpCode.
-fn read_bare(kind: Kind, l: usize, q: &[u8]) -> Reading
-    ensures { told_reading result ≡ read_bare kind l q.now }
-{
-    if q.len() != l {
-        return Reading::Refused(Refusal::BadForm);
-    }
-    let id = octets::octet(q, 1);
-    Reading::Read(Packet {
-        kind,
-        id: Identifier(id),
-        chapid: ChapId(0),
-        length: q.len(),
-        error: 0,
-        challenge: NOWHERE,
-        response: NOWHERE,
-        tail: NOWHERE,
+    ms_length(q)?;
+    let Digits { e, v } = failure_digits(q)?;
+    Ok(Packet {
+        error: decimal_at(q, 11, e),
+        challenge: Place {
+            start: 18 + e,
+            len: 32,
+        },
+        ..chap_packet(failure_kind(q, 14 + e), q, 56 + e + v)
     })
 }
 
-// The Type and the OpCode count as 0 where there are none, which no packet has.
-fn read_at_peer(code: u8, eaptype: u8, op: u8, q: &[u8]) -> Reading
-    requires { length q.now ≤ max_packet }
-    ensures { told_reading result ≡ at_peer code eaptype op q.now }
+// A packet of l octets with nothing after its OpCode, or with no OpCode.
+#[tactic(auto, using(crate::proofs::Steps::rows), unfolding(crate::specs::Reader::read_bare))]
+fn read_bare(kind: Kind, l: usize, q: &[u8]) -> Result<Packet, Refusal>
+    ensures { told_reading result ≡ read_bare kind l q.now }
 {
-    if code == 3 {
-        return read_bare(Kind::EapSuccess, 4, q);
-    }
-    if code == 4 {
-        return read_bare(Kind::EapFailure, 4, q);
-    }
-    if code != 1 {
-        return Reading::Refused(Refusal::BadCode);
-    }
-    if eaptype != 26 {
-        return Reading::Refused(Refusal::BadType);
-    }
-    if op == 1 {
-        return read_challenge(q);
-    }
-    if op == 3 {
-        return read_success(q);
-    }
-    if op == 4 {
-        return read_failure(q);
-    }
-    Reading::Refused(Refusal::BadOpCode)
+    form(q.len() == l)?;
+    Ok(bare_packet(kind, q))
 }
 
-fn read_at_server(code: u8, eaptype: u8, op: u8, q: &[u8]) -> Reading
-    ensures { told_reading result ≡ at_server code eaptype op q.now }
+// The OpCode, of Type 26.
+fn op_code(q: &[u8]) -> Result<u8, Refusal>
+    ensures { MatchResult result (λ op. (octet_is q.now 4 26 ≡ true) × (op ≡ get_or q.now 5 0)) (λ why. (octet_is q.now 4 26 ≡ false) × (why ≡ BadType)) }
 {
-    if code != 2 {
-        return Reading::Refused(Refusal::BadCode);
-    }
-    if eaptype != 26 {
-        return Reading::Refused(Refusal::BadType);
-    }
-    if op == 2 {
-        return read_response(q);
-    }
-    if op == 3 {
-        return read_bare(Kind::SuccessResponse, 6, q);
-    }
-    if op == 4 {
-        return read_bare(Kind::FailureResponse, 6, q);
-    }
-    Reading::Refused(Refusal::BadOpCode)
+    ensure(octets::octet_is(q, 4, 26), Refusal::BadType)?;
+    Ok(octets::octet(q, 5))
 }
 
-fn read_at(end: End, code: u8, eaptype: u8, op: u8, q: &[u8]) -> Reading
-    requires { length q.now ≤ max_packet }
-    ensures { told_reading result ≡ at_end end code eaptype op q.now }
+// Code 1.
+#[tactic(auto, using(octets::proofs::Exits::wide))]
+fn read_request(op: u8, q: &[u8]) -> Result<Packet, Refusal>
+    ensures { told_reading result ≡ request op q.now }
 {
-    match end {
-        End::Peer => read_at_peer(code, eaptype, op, q),
-        End::Server => read_at_server(code, eaptype, op, q),
+    match op {
+        1 => read_challenge(q),
+        3 => read_success(q),
+        4 => read_failure(q),
+        _ => Err(Refusal::BadOpCode),
     }
 }
 
-// A packet cut at L.
-fn read_cut(end: End, q: &[u8]) -> Reading
-    requires { length q.now ≤ max_packet }
+// Code 2.
+#[tactic(auto, using(octets::proofs::Exits::wide))]
+fn read_reply(op: u8, q: &[u8]) -> Result<Packet, Refusal>
+    ensures { told_reading result ≡ reply op q.now }
+{
+    match op {
+        2 => read_response(q),
+        3 => read_bare(Kind::SuccessResponse, 6, q),
+        4 => read_bare(Kind::FailureResponse, 6, q),
+        _ => Err(Refusal::BadOpCode),
+    }
+}
+
+// A packet cut at L. A Type or an OpCode that is not there counts as 0, which no packet has.
+#[tactic(auto, using(crate::proofs::Steps::cuts))]
+fn read_cut(end: End, q: &[u8]) -> Result<Packet, Refusal>
     ensures { told_reading result ≡ read_cut end q.now }
 {
-    let code = octets::octet(q, 0);
-    let eaptype = octets::octet(q, 4);
-    let op = octets::octet(q, 5);
-    read_at(end, code, eaptype, op, q)
+    match (end, octets::octet(q, 0)) {
+        (End::Peer, 1) => read_request(op_code(q)?, q),
+        (End::Peer, 3) => read_bare(Kind::EapSuccess, 4, q),
+        (End::Peer, 4) => read_bare(Kind::EapFailure, 4, q),
+        (End::Server, 2) => read_reply(op_code(q)?, q),
+        _ => Err(Refusal::BadCode),
+    }
 }
 
 // Reads a packet for an end. Octets after L are not looked at.
-pub fn read(end: End, p: &[u8]) -> Reading
+#[tactic(auto, using(crate::proofs::Steps::reads))]
+pub fn read(end: End, p: &[u8]) -> Result<Packet, Refusal>
     ensures { told_reading result ≡ read_packet end p.now }
 {
-    let framed = frame(p);
-    match framed {
-        Framed::Refused(why) => Reading::Refused(why),
-        Framed::Of(l) => read_cut(end, octets::part(p, 0, l)),
-    }
+    let l = frame(p)?;
+    read_cut(end, octets::part(p, 0, l))
 }
 
 fn has_text(kind: Kind) -> bool
     ensures { result ≡ has_text kind }
 {
-    match kind {
-        Kind::Challenge => false,
-        Kind::Response => false,
-        Kind::SuccessRequest => true,
-        Kind::FailureRequest => true,
-        Kind::RetryRequest => true,
-        Kind::SuccessResponse => false,
-        Kind::FailureResponse => false,
-        Kind::EapSuccess => false,
-        Kind::EapFailure => false,
-    }
+    matches!(
+        kind,
+        Kind::SuccessRequest | Kind::FailureRequest | Kind::RetryRequest
+    )
 }
 
-// Where the text after M= lies in a packet: in a Success or Failure Request from its start to L; in others nowhere, at 0.
+// Where the text after M= lies in a packet: in a Success or Failure Request from its start to L; in others nowhere, at 0. Not an Option: C
+// is told 0 and 0, and the definition says so.
+#[tactic(auto, using(octets::proofs::Exits::exits, octets::proofs::Exits::gave), unfolding(crate::specs::Texts::text_in))]
 pub fn text_in(k: Packet) -> Place
     ensures { result ≡ text_in k }
 {
-    let kind = k.kind;
-    if has_text(kind) {
-        return k.tail;
-    }
-    NOWHERE
+    if has_text(k.kind) { k.tail } else { NOWHERE }
 }
 
 // The same of a reading; at 0 where it is refused.
-pub fn text_told(x: Reading) -> Place
+#[tactic(auto, using(crate::proofs::Texts::text_refused, crate::proofs::Texts::text_read))]
+pub fn text_told(x: Result<Packet, Refusal>) -> Place
     ensures { result ≡ text_told (told_reading x) }
 {
     match x {
-        Reading::Refused(_) => NOWHERE,
-        Reading::Read(k) => text_in(k),
+        Err(_) => NOWHERE,
+        Ok(k) => text_in(k),
     }
 }
 
 // The text after M=, the part of the packet that goes on to L; no octets where a packet has none or cannot be read.
+#[tactic(auto, unfolding(crate::specs::Texts::text_part, crate::specs::Texts::text_place))]
 pub fn text(end: End, p: &[u8]) -> &[u8]
     ensures { result.now ≡ text_part end p.now }
 {
-    let x = read(end, p);
-    let place = text_told(x);
-    octets::part(p, place.start, place.len)
-}
-
-// Sixteen octets from a place on, and zeros where there are fewer: a challenge.
-pub fn sixteen_at(p: &[u8], at: usize) -> [u8; 16]
-    ensures { result ≡ sized 16 (drop at p.now) }
-{
-    let mut out = [0u8; 16];
-    octets::fill(&mut out, octets::rest(p, at));
-    out
-}
-
-// 24 octets from a place on, and zeros where there are fewer: an NT-Response.
-pub fn response_at(p: &[u8], at: usize) -> [u8; 24]
-    ensures { result ≡ sized 24 (drop at p.now) }
-{
-    let mut out = [0u8; 24];
-    octets::fill(&mut out, octets::rest(p, at));
-    out
+    text_told(read(end, p)).of(p)
 }
 
 // The sixteen octets of the 32 hex digits from a place on: the challenge of a Failure Request.

@@ -1,3 +1,3 @@
-pub mod Walks
+pub mod Characters
 pub mod Hashes
 pub mod Examples

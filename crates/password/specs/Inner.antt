@@ -1,8 +1,12 @@
 -- What this crate's private functions promise each other.
-use Rattle.std.specs.Prelude.{ℕ, min, ◌≤◌, ◌≡◌, List, length, take}
+use Rattle.std.specs.Prelude.{ℕ, ◌+◌, ◌<◌, ◌≤◌, ◌≡◌, List, ◌++◌, Option, Some, None, length, take}
 
--- n counts the units u, where they are at most 256, and they stand at the front of a list; else n is 257
-pub record Converted (u : List ℕ) (n : ℕ) (after : List ℕ) : Type 0 where
-  pub count : n ≡ min (length u) 257
-  pub room : n ≤ length after
-  pub front : n ≤ 256 → take n after ≡ u
+-- the units u stand after the first n of a list, and m counts them all; None where they are more than 256
+abbrev pub Extended : List ℕ → ℕ → List ℕ → Option ℕ → List ℕ → Type 0
+Extended before n u (Some m) after = (m ≤ 256) × (take m after ≡ take n before ++ u)
+Extended before n u None after = 256 < n + length u
+
+-- n counts the units u, which stand at the front of a list; None where they are more than 256
+abbrev pub Converted : List ℕ → Option ℕ → List ℕ → Type 0
+Converted u (Some n) after = (n ≤ 256) × (take n after ≡ u)
+Converted u None after = 256 < length u

@@ -1,3 +1,3 @@
-pub mod Readings
+pub mod Moves
 pub mod Replies
 pub mod Texts

@@ -3,8 +3,8 @@ use Rattle.std.specs.Prelude.{ℕ, ◌≡◌, List, [], not, length, take, repli
 use Rattle.octets.specs.Choice.{pick}
 use Rattle.octets.specs.Lists.{part, cells}
 use Rattle.octets.specs.Octets.{octet_is, same, unhex_at}
-use Rattle.answer.specs.Answer.{number_of}
-use Rattle.answer.specs.Outcome.{Told, Outcome, outcome, refused, fitting, Does}
+use Rattle.answer.specs.Outcome.{Told, Outcome, outcome, refused, fitting}
+use Rattle.answer.specs.Results.{Replies}
 use Rattle.answer.specs.Sizes.{max_name}
 use Rattle.packet.specs.declared.End.TheVariants as end
 use Rattle.packet.specs.declared.Packet.{Packet}
@@ -126,7 +126,7 @@ step_text p s random room = text_by (step_of p s random room).number (text_place
 
 -- a call did what o says, and told a text there; the calls that take no packet tell none
 pub record DoesTelling (o : Outcome Peer) (text : Place) (r : PeerStep) (before after : List ℕ) : Type 0 where
-  pub does : Does o (number_of r.answer) r.n r.peer before after
+  pub does : Replies o r.answer r.peer before after
   pub told : r.text ≡ text
 
 -- ---- the two calls of WAITING: 19, 23, 20

@@ -1,41 +1,30 @@
--- What only this crate's private functions promise each other: of stored names, of the string that goes into the state, and of the text that is told.
-use Rattle.std.specs.Prelude.{ℕ, ◌≤◌, ◌≡◌, List, length, take, replicate}
-use Rattle.answer.specs.Outcome.{Outcome}
-use Rattle.answer.specs.Sizes.{max_name}
-use Rattle.mschap.specs.Users.{user_of}
-use Rattle.packet.specs.declared.Place.{Place}
-use Rattle.peer.specs.declared.Move.{Move}
-use Rattle.peer.specs.declared.Move.TheVariants.{NotTaken, WrongIdentifier, Again, Respond, Confirm, Fail, Wait, Succeed, End}
+-- What only this crate's private functions promise each other.
+use Rattle.std.specs.Prelude.{ℕ, List, take, replicate, Result, Ok, Err}
+use Rattle.answer.specs.Sizes.{max_packet}
+use Rattle.answer.specs.declared.Refusal.{Refusal}
+use Rattle.peer.specs.State.{reply_room, challenges_of}
+use Rattle.peer.specs.declared.Credentials.{Credentials}
 use Rattle.peer.specs.declared.Peer.{Peer}
-use Rattle.peer.specs.declared.PeerStep.{PeerStep}
-use Rattle.peer.specs.State.{string_in}
-use Rattle.peer.specs.Calls.{text_by, DoesTelling}
+use Rattle.peer.specs.declared.Sent.{Sent}
+use Rattle.peer.specs.declared.Stage.{Stage}
 
--- n octets of an array of at most 256 are a name
-pub record Named (octets : List ℕ) (n : ℕ) (name : List ℕ) : Type 0 where
-  pub is : name ≡ take n octets
-  pub few : length name ≤ max_name
+-- a length past the array counts as the array's
+abbrev pub name_in : Credentials → List ℕ
+name_in c = take c.namelen c.name
 
-pub record UserIn (name user : List ℕ) : Type 0 where
-  pub is : user ≡ user_of name
-  pub few : length user ≤ max_name
+-- the length of a Response, or 0 beside a refusal
+abbrev pub sent_count : Result Sent Refusal → ℕ
+sent_count (Ok s) = s.n
+sent_count (Err why) = 0
 
--- what is computed after the reply w of a move: where that is a Response, the string that is to answer it
-unfoldable pub string_after : Move → List ℕ → List ℕ → List ℕ → List ℕ
-string_after NotTaken hash authenticator w = replicate 20 0
-string_after WrongIdentifier hash authenticator w = replicate 20 0
-string_after Again hash authenticator w = replicate 20 0
-string_after Respond hash authenticator w = string_in hash authenticator w
-string_after Confirm hash authenticator w = replicate 20 0
-string_after Fail hash authenticator w = replicate 20 0
-string_after Wait hash authenticator w = replicate 20 0
-string_after Succeed hash authenticator w = replicate 20 0
-string_after End hash authenticator w = replicate 20 0
-
--- the string is right where the move made a Response that was written
-pub record KeptBy (n : ℕ) (m : Move) (string right : List ℕ) : Type 0 where
-  pub kept : n ≡ 0 → m ≡ Respond → string ≡ right
-
--- a step did what o says, and told a text as that answer does
-abbrev pub Stepped : Outcome Peer → Place → PeerStep → List ℕ → List ℕ → Type 0
-Stepped o text r before after = DoesTelling o (text_by o.number text) r before after
+-- a state to which nothing has come
+abbrev pub starting : Stage → Credentials → Peer
+starting stage credentials = record {
+  stage = stage;
+  credentials = credentials;
+  challenges = challenges_of (replicate 16 0) (replicate 16 0) (record { 0 = 0 }) (replicate 20 0);
+  request = replicate max_packet 0;
+  requestlen = 0;
+  reply = replicate reply_room 0;
+  replylen = 0;
+}

@@ -1,28 +1,30 @@
 // The peer's end: document 01, "The logger's moves (peer)".
 #![tactic(auto)]
 
-ghost use Rattle.std.specs.Prelude.{◌≡◌, [], ◌≤◌, length, take, eqb};
-ghost use Rattle.octets.specs.Choice.{pick};
-ghost use Rattle.octets.specs.Octets.{same};
-ghost use Rattle.answer.specs.Answer.{number_of, refusal_of};
-ghost use Rattle.answer.specs.Outcome.{fitting, refused, Does};
+ghost use Rattle.std.specs.Prelude.{◌≡◌, [], ◌<◌, ◌≤◌, length, Ok, IfOk, MatchResult};
+ghost use Rattle.answer.specs.Outcome.{outcome, fitting, Does};
+ghost use Rattle.answer.specs.Results.{refusal_in, reply_number, Replies};
+ghost use Rattle.answer.specs.declared.Done.TheVariants.{Written};
+ghost use Rattle.answer.specs.declared.Refusal.TheVariants.{BadArgument};
 ghost use Rattle.answer.specs.Sizes.{max_packet, max_name};
-ghost use Rattle.mschap.specs.Responses.{nt_response, digits_of};
 ghost use Rattle.packet.specs.Kinds.{is_request};
-ghost use Rattle.packet.specs.Reader.{nowhere, told_reading, challenge_in};
-ghost use Rattle.packet.specs.Texts.{text_in, text_told};
+ghost use Rattle.packet.specs.Forms.{failure_response};
+ghost use Rattle.packet.specs.Texts.{text_told};
+ghost use Rattle.packet.specs.Reader.{nowhere, told_reading};
 ghost use Rattle.writers.specs.Writers.{sends};
-ghost use Rattle.peer.specs.declared.Move.TheVariants.{Respond};
-ghost use Rattle.peer.specs.Inner.{Named, UserIn, string_after, KeptBy, Stepped};
-ghost use Rattle.peer.specs.State.{reply_room, own_name, response_to, string_to, string_in, right_digits, credentials_of, initial, at_stage, with_request, with_reply, staged, answered, responded, awaiting, supplied};
-ghost use Rattle.peer.specs.Moves.{takes, move_of, sent, waiting, repeats, misnumbered, turn_of};
-ghost use Rattle.peer.specs.Calls.{new_of, renewed_in, says, confirmation, answer_of, next_of, left_by, turn_in, taken_by, read_by, step_of, text_by, step_text, DoesTelling, resume_of, supply_of, give_up_of};
+ghost use Rattle.peer.specs.declared.Move.TheVariants as move;
+ghost use Rattle.peer.specs.declared.Stage.TheVariants as stage;
+ghost use Rattle.peer.specs.Inner.{name_in, sent_count, starting};
+ghost use Rattle.peer.specs.State.{reply_room, last_request, last_reply, response_to, string_to, right_digits, credentials_of, challenges_of, at_stage, with_request, with_reply, staged, answered, awaiting};
+ghost use Rattle.peer.specs.Moves.{takes, move_of, sent, repeats, misnumbered, turn_of};
+ghost use Rattle.peer.specs.Calls.{new_of, renewed_in, turn_in, moved_of, taken_by, read_by, step_of, text_by, step_text, DoesTelling, supply_of, give_up_of};
 
-use answer::{Answer, ChapId, Identifier, Refusal};
-use packet::{End, Kind, Packet, Place, Reading, is_kind};
-use writers::Written;
+use answer::{ChapId, Done, Identifier, Refusal, Reply};
+use mschap::Exchange;
+use packet::{End, Kind, Packet, Place};
+use writers::Ids;
 
-#[derive(Clone, Copy)]
+#[derive(Clone, Copy, PartialEq, Eq)]
 pub enum Stage {
     Begin,
     ChallengeResponseSent,
@@ -33,7 +35,33 @@ pub enum Stage {
     Failed,
 }
 
-// What a stage makes of a packet.
+impl Stage {
+    fn takes(self, kind: Kind) -> bool
+        ensures { result ≡ takes self kind }
+    {
+        match self {
+            Stage::Begin => matches!(kind, Kind::Challenge),
+            Stage::ChallengeResponseSent => matches!(
+                kind,
+                Kind::SuccessRequest | Kind::FailureRequest | Kind::RetryRequest | Kind::EapFailure
+            ),
+            Stage::SuccessResponseSent => matches!(kind, Kind::EapSuccess | Kind::EapFailure),
+            Stage::FailureResponseSent => matches!(kind, Kind::EapFailure),
+            Stage::Waiting | Stage::Success | Stage::Failed => false,
+        }
+    }
+
+    fn is_sent(self) -> bool
+        ensures { result ≡ sent self }
+    {
+        matches!(
+            self,
+            Stage::ChallengeResponseSent | Stage::SuccessResponseSent | Stage::FailureResponseSent
+        )
+    }
+}
+
+// What a stage makes of a packet. An enum and no closure: the definitions of specs/Calls go by it, and closures may not be handed out.
 #[derive(Clone, Copy)]
 enum Move {
     NotTaken,
@@ -47,13 +75,22 @@ enum Move {
     End,
 }
 
-// Of each array with a length the octets past it are zero; a length past its array counts as the array's. The length stands
-// first: with no padding before the name the compiler copies it at once.
+// Of each array with a length the octets past it are zero; a length past its array counts as the array's. Arrays with a length
+// beside them and no Vec: memory is fixed, and a state that is handed in may give any length. The length stands first: with no
+// padding before the name the compiler copies it at once.
 #[derive(Clone, Copy)]
 pub struct Credentials {
     pub namelen: u16,
     pub name: [u8; Peer::MAX_NAME],
     pub hash: [u8; 16],
+}
+
+impl Credentials {
+    const NONE: Credentials = Credentials {
+        namelen: 0,
+        name: [0u8; Peer::MAX_NAME],
+        hash: [0u8; 16],
+    };
 }
 
 // The last Response's challenges and MS-CHAPv2-ID, and the authenticator string that is to answer it; in WAITING the
@@ -81,29 +118,18 @@ pub struct Peer {
 
 #[derive(Clone, Copy)]
 pub struct PeerStep {
-    pub answer: Answer,
-    pub n: usize,
-    // where the server's text lies in the packet that was taken; at 0 where none is told
+    pub answer: Result<Reply, Refusal>,
+    // where the server's text lies in the packet that was taken; at 0 where none is told, as step_text has it, and no Option
     pub text: Place,
     pub peer: Peer,
 }
 
-// Whether a stage takes a packet.
-fn takes(stage: Stage, kind: Kind) -> bool
-    ensures { result ≡ takes stage kind }
-{
-    match stage {
-        Stage::Begin => is_kind(Kind::Challenge, kind),
-        Stage::ChallengeResponseSent => is_kind(Kind::SuccessRequest, kind)
-            | (is_kind(Kind::FailureRequest, kind)
-                | (is_kind(Kind::RetryRequest, kind) | is_kind(Kind::EapFailure, kind))),
-        Stage::SuccessResponseSent => is_kind(Kind::EapSuccess, kind)
-            | is_kind(Kind::EapFailure, kind),
-        Stage::FailureResponseSent => is_kind(Kind::EapFailure, kind),
-        Stage::Waiting => false,
-        Stage::Success => false,
-        Stage::Failed => false,
-    }
+// A packet that was read, and its octets up to L.
+#[derive(Clone, Copy)]
+struct Received<'a> {
+    packet: Packet,
+    octets: &'a [u8],
+    ghost few: { length octets.now ≤ max_packet },
 }
 
 // The move that a packet brings where it is taken.
@@ -112,87 +138,48 @@ fn move_of(kind: Kind) -> Move
 {
     match kind {
         Kind::Challenge => Move::Respond,
-        Kind::Response => Move::NotTaken,
         Kind::SuccessRequest => Move::Confirm,
         Kind::FailureRequest => Move::Fail,
         Kind::RetryRequest => Move::Wait,
-        Kind::SuccessResponse => Move::NotTaken,
-        Kind::FailureResponse => Move::NotTaken,
         Kind::EapSuccess => Move::Succeed,
         Kind::EapFailure => Move::End,
-    }
-}
-
-fn is_sent(stage: Stage) -> bool
-    ensures { result ≡ sent stage }
-{
-    match stage {
-        Stage::Begin => false,
-        Stage::ChallengeResponseSent => true,
-        Stage::SuccessResponseSent => true,
-        Stage::FailureResponseSent => true,
-        Stage::Waiting => false,
-        Stage::Success => false,
-        Stage::Failed => false,
-    }
-}
-
-fn is_waiting(stage: Stage) -> bool
-    ensures { result ≡ waiting stage }
-{
-    match stage {
-        Stage::Begin => false,
-        Stage::ChallengeResponseSent => false,
-        Stage::SuccessResponseSent => false,
-        Stage::FailureResponseSent => false,
-        Stage::Waiting => true,
-        Stage::Success => false,
-        Stage::Failed => false,
+        Kind::Response | Kind::SuccessResponse | Kind::FailureResponse => Move::NotTaken,
     }
 }
 
 fn is_request(kind: Kind) -> bool
     ensures { result ≡ is_request kind }
 {
-    is_kind(Kind::Challenge, kind)
-        | (is_kind(Kind::SuccessRequest, kind)
-            | (is_kind(Kind::FailureRequest, kind) | is_kind(Kind::RetryRequest, kind)))
+    matches!(
+        kind,
+        Kind::Challenge | Kind::SuccessRequest | Kind::FailureRequest | Kind::RetryRequest
+    )
 }
 
 // The repeat rule. same: the packet's first L octets equal the last answered request's.
+#[tactic(auto, using(octets::proofs::Exits::exits), unfolding(crate::specs::Moves::repeats, octets::specs::Choice::pick))]
 fn is_repeat(stage: Stage, kind: Kind, same: bool) -> bool
     ensures { result ≡ repeats stage kind same }
 {
-    if !is_sent(stage) {
-        return false;
-    }
-    if !is_request(kind) {
-        return false;
-    }
-    same
+    stage.is_sent() && is_request(kind) && same
 }
 
 // Number 18. known: the packet's Identifier is the last answered one.
 fn is_misnumbered(stage: Stage, kind: Kind, known: bool) -> bool
     ensures { result ≡ misnumbered stage kind known }
 {
-    if !is_sent(stage) {
-        return false;
-    }
-    if is_request(kind) {
-        return known;
-    }
-    !known
+    stage.is_sent() && is_request(kind) == known
 }
 
 // The repeat rule, 19, 18, and then the table's move.
+#[tactic(auto, using(octets::proofs::Exits::exits), unfolding(crate::specs::Moves::turn_of))]
 fn turn_of(stage: Stage, kind: Kind, same: bool, known: bool) -> Move
     ensures { result ≡ turn_of stage kind same known }
 {
     if is_repeat(stage, kind, same) {
         return Move::Again;
     }
-    if !takes(stage, kind) {
+    if !stage.takes(kind) {
         return Move::NotTaken;
     }
     if is_misnumbered(stage, kind, known) {
@@ -202,206 +189,91 @@ fn turn_of(stage: Stage, kind: Kind, same: bool, known: bool) -> Move
 }
 
 // The turn that a packet brings after the last answered request.
-fn turn_in(stage: Stage, k: Packet, q: &[u8], last: &[u8]) -> Move
-    ensures { result ≡ turn_in stage k q.now last.now }
+#[tactic(auto, unfolding(crate::specs::Calls::turn_in))]
+fn turn_in(stage: Stage, x: Received, last: &[u8]) -> Move
+    ensures { result ≡ turn_in stage x.entry.packet x.entry.octets.now last.now }
 {
-    let kind = k.kind;
-    let same = octets::equal(q, last);
-    let known = octets::octet_is(last, 1, k.id.0);
-    turn_of(stage, kind, same, known)
+    let same = octets::equal(x.octets, last);
+    let known = octets::octet_is(last, 1, x.packet.id.0);
+    turn_of(stage, x.packet.kind, same, known)
 }
 
-// The first n octets.
-fn first(s: &[u8], n: u16) -> &[u8]
-    ensures { result.now ≡ take n s.now }
+// ---- Responses
+// 23 for a name of more than 256 octets.
+fn credentials_of(name: &[u8], hash: [u8; 16]) -> Result<Credentials, Refusal>
+    ensures { MatchResult result (λ c. (length name.now ≤ max_name) × (c ≡ credentials_of name.now hash)) (λ why. (max_name < length name.now) × (why ≡ BadArgument)) }
 {
-    octets::part(s, 0, n as usize)
+    if Peer::MAX_NAME < name.len() {
+        return Err(Refusal::BadArgument);
+    }
+    Ok(Credentials {
+        namelen: name.len() as u16,
+        name: octets::array_at(name, 0),
+        hash,
+    })
 }
 
-// A name of n octets in its array.
-fn named(name: &[u8], n: u16) -> &[u8]
-    requires { length name.now ≤ max_name }
-    ensures { Named name.now n result.now }
+fn name_in(credentials: &Credentials) -> &[u8]
+    ensures is { result.now ≡ name_in credentials.now }
+    ensures few { length result.now ≤ max_name }
 {
-    first(name, n)
+    octets::part(&credentials.name, 0, credentials.namelen as usize)
 }
 
-// The user of a name.
-fn user_in(name: &[u8]) -> &[u8]
-    requires { length name.now ≤ max_name }
-    ensures { UserIn name.now result.now }
-{
-    let user = mschap::user_of(name);
-    let at = user.start;
-    octets::rest(name, at)
-}
-
-// What a Response is made of, beside the name.
+// A Response that was written: its length, and what the state keeps of it.
 #[derive(Clone, Copy)]
-struct Keys {
+struct Sent {
+    n: usize,
+    challenges: Challenges,
+}
+
+// Writes the Response to a challenge, or answers 20.
+fn send_response(
+    ids: Ids,
     authenticator: [u8; 16],
     own: [u8; 16],
-    hash: [u8; 16],
-}
-
-fn nt_response(keys: Keys, user: &[u8]) -> [u8; 24]
-    requires { length user.now ≤ max_name }
-    ensures { result ≡ nt_response keys.authenticator keys.own user.now keys.hash }
-{
-    let authenticator = keys.authenticator;
-    let own = keys.own;
-    let hash = keys.hash;
-    let made = mschap::nt_response(authenticator, own, user, hash);
-    made.octets
-}
-
-// The authenticator string that is to answer the Response w, of whose octets it is made.
-fn string_in(hash: [u8; 16], authenticator: [u8; 16], w: &[u8]) -> [u8; 20]
-    requires { length w.now ≤ reply_room }
-    ensures { result ≡ string_in hash authenticator w.now }
-{
-    let own = packet::sixteen_at(w, packet::CHALLENGE_AT);
-    let response = packet::response_at(w, packet::NT_RESPONSE_AT);
-    let user = user_in(octets::rest(w, packet::RESPONSE_NAME_AT));
-    let made = mschap::authenticator_string(hash, response, own, authenticator, user);
-    made.octets
-}
-
-// The string that the state keeps after the reply w, where that is a Response to the Challenge q; else zeros, which nothing
-// looks at.
-fn string_after(m: Move, hash: [u8; 16], k: Packet, q: &[u8], w: &[u8]) -> [u8; 20]
-    requires { length w.now ≤ reply_room }
-    ensures { result ≡ string_after m hash (challenge_in k q.now) w.now }
-{
-    match m {
-        Move::NotTaken => [0u8; 20],
-        Move::WrongIdentifier => [0u8; 20],
-        Move::Again => [0u8; 20],
-        Move::Respond => string_in(hash, packet::sixteen_at(q, k.challenge.start), w),
-        Move::Confirm => [0u8; 20],
-        Move::Fail => [0u8; 20],
-        Move::Wait => [0u8; 20],
-        Move::Succeed => [0u8; 20],
-        Move::End => [0u8; 20],
-    }
-}
-
-// Whether these digits are the string's. All 40 are compared.
-fn is_right(string: [u8; 20], digits: &[u8]) -> bool
-    ensures { result ≡ same digits.now (digits_of string) }
-{
-    let right = mschap::authenticator_digits(string);
-    octets::equal(digits, &right)
-}
-
-// ---- what a move answers, and the reply that it writes
-// An answer without a reply.
-fn say(answer: Answer, reply: &mut [u8]) -> Written
-    ensures { Does (says (number_of answer)) (number_of result.answer) result.n tt reply.old reply.new }
-{
-    Written { answer, n: 0 }
-}
-
-// The Response, or 20.
-fn send_response(
-    id: Identifier,
-    chapid: ChapId,
-    keys: Keys,
-    name: &[u8],
+    credentials: &Credentials,
     reply: &mut [u8],
-) -> Written
-    requires { length name.now ≤ max_name }
-    ensures { Does (sends (length reply.old) (response_to id.0 chapid.0 keys.authenticator keys.own name.now keys.hash)) (number_of result.answer) result.n tt reply.old reply.new }
+) -> Result<Sent, Refusal>
+    ensures writes { Does (sends (length reply.old) (response_to ids.id.0 ids.chapid.0 authenticator own (name_in credentials.now) credentials.now.hash)) (refusal_in result) (sent_count result) tt reply.old reply.new }
+    ensures keeps { IfOk result (λ s. s.challenges ≡ challenges_of authenticator own ids.chapid (string_to authenticator own (name_in credentials.now) credentials.now.hash)) }
 {
-    let own = keys.own;
-    let response = nt_response(keys, user_in(name));
-    writers::write_response(id, chapid, own, response, name, reply)
-}
-
-// The Response to the Challenge q.
-fn respond(
-    k: Packet,
-    q: &[u8],
-    random: [u8; 16],
-    name: &[u8],
-    hash: [u8; 16],
-    reply: &mut [u8],
-) -> Written
-    requires { length name.now ≤ max_name }
-    ensures { Does (sends (length reply.old) (response_to k.id.0 k.chapid.0 (challenge_in k q.now) random name.now hash)) (number_of result.answer) result.n tt reply.old reply.new }
-{
-    let at = k.challenge.start;
-    let authenticator = packet::sixteen_at(q, at);
-    let keys = Keys {
+    let name = name_in(credentials);
+    let hash = credentials.hash;
+    let exchange = Exchange {
         authenticator,
-        own: random,
-        hash,
+        peer: own,
+        user: mschap::user_part(name),
     };
-    send_response(k.id, k.chapid, keys, name, reply)
+    let response = exchange.nt_response(hash);
+    let n = writers::write_response(ids, own, response, name, reply)?;
+    let expected = exchange.authenticator_string(hash, response);
+    Ok(Sent {
+        n,
+        challenges: Challenges {
+            authenticator,
+            own,
+            chapid: ids.chapid,
+            expected,
+        },
+    })
 }
 
-// The Success Response to the right string. Another ends the login.
-fn confirm(k: Packet, q: &[u8], expected: [u8; 20], reply: &mut [u8]) -> Written
-    ensures { Does (fitting (length reply.old) tt (confirmation k q.now (digits_of expected))) (number_of result.answer) result.n tt reply.old reply.new }
+// An answer without a reply.
+fn said(done: Done) -> Result<Reply, Refusal>
+    ensures { result ≡ Ok (record { done = done; n = 0 }) }
 {
-    let at = k.response.start;
-    if is_right(expected, octets::part(q, at, 40)) {
-        return writers::write_success_response(k.id, reply);
-    }
-    say(Answer::Ended, reply)
+    Ok(Reply { done, n: 0 })
 }
 
-// name and last, the stored reply, are lent from one state.
-fn answer_to<'a>(
-    m: Move,
-    k: Packet,
-    q: &[u8],
-    random: [u8; 16],
-    expected: [u8; 20],
-    hash: [u8; 16],
-    name: &'a [u8],
-    last: &'a [u8],
-    reply: &mut [u8],
-) -> Written
-    requires { length name.now ≤ max_name }
-    ensures { Does (fitting (length reply.old) tt (answer_of m k q.now (response_to k.id.0 k.chapid.0 (challenge_in k q.now) random name.now hash) (digits_of expected) last.now)) (number_of result.answer) result.n tt reply.old reply.new }
+// A reply of n octets.
+fn wrote(n: usize) -> Result<Reply, Refusal>
+    ensures { result ≡ Ok (record { done = Written; n = n }) }
 {
-    match m {
-        Move::NotTaken => say(Answer::Refused(Refusal::NotTaken), reply),
-        Move::WrongIdentifier => say(Answer::Refused(Refusal::WrongIdentifier), reply),
-        Move::Again => writers::send(last, reply),
-        Move::Respond => respond(k, q, random, name, hash, reply),
-        Move::Confirm => confirm(k, q, expected, reply),
-        Move::Fail => writers::write_failure_response(k.id, reply),
-        Move::Wait => say(Answer::NeedsCredentials, reply),
-        Move::Succeed => say(Answer::Authenticated, reply),
-        Move::End => say(Answer::Ended, reply),
-    }
-}
-
-// Where the text of a packet lies, as an answer tells it: a refusal tells none.
-fn text_by(answer: Answer, k: Packet) -> Place
-    ensures { result ≡ text_by (number_of answer) (text_in k) }
-{
-    let number = answer::number(answer);
-    if number < 10 {
-        return packet::text_in(k);
-    }
-    packet::NOWHERE
-}
-
-// ---- groups of the state
-fn credentials_of(name: &[u8], hash: [u8; 16]) -> Credentials
-    requires { length name.now ≤ max_name }
-    ensures { result ≡ credentials_of name.now hash }
-{
-    let mut room = [0u8; Peer::MAX_NAME];
-    octets::fill(&mut room, name);
-    Credentials {
-        name: room,
-        namelen: name.len() as u16,
-        hash,
-    }
+    Ok(Reply {
+        done: Done::Written,
+        n,
+    })
 }
 
 impl Peer {
@@ -411,14 +283,12 @@ impl Peer {
 
     pub const REPLY_ROOM: usize = packet::RESPONSE_NAME_AT + Peer::MAX_NAME;
 
-    // ---- states
-    fn initial(stage: Stage, name: &[u8], hash: [u8; 16]) -> Peer
-        requires { length name.now ≤ max_name }
-        ensures { result ≡ initial stage name.now hash }
+    fn initial(stage: Stage, credentials: Credentials) -> Peer
+        ensures { result ≡ starting stage credentials }
     {
         Peer {
             stage,
-            credentials: credentials_of(name, hash),
+            credentials,
             challenges: Challenges {
                 authenticator: [0u8; 16],
                 own: [0u8; 16],
@@ -432,321 +302,222 @@ impl Peer {
         }
     }
 
-    fn staged(self, stage: Stage) -> Peer
-        ensures { result ≡ staged stage self }
+    // ---- what the state holds
+    #[tactic(auto, unfolding(crate::specs::State::last_request))]
+    fn last_request(&self) -> &[u8]
+        ensures { result.now ≡ last_request self.now }
     {
-        let credentials = self.credentials;
-        let challenges = self.challenges;
-        let request = self.request;
-        let reply = self.reply;
-        Peer {
-            stage,
-            credentials,
-            challenges,
-            request,
-            requestlen: self.requestlen,
-            reply,
-            replylen: self.replylen,
-        }
+        octets::part(&self.request, 0, self.requestlen as usize)
     }
 
-    // The reply w to q, to which the challenges belong.
-    fn answered_by(self, stage: Stage, challenges: Challenges, q: &[u8], w: &[u8]) -> Peer
-        requires { (length q.now ≤ max_packet) × (length w.now ≤ reply_room) }
-        ensures { result ≡ at_stage stage self.credentials challenges (with_request q.now (with_reply w.now self)) }
+    #[tactic(auto, unfolding(crate::specs::State::last_reply))]
+    fn last_reply(&self) -> &[u8]
+        ensures { result.now ≡ last_reply self.now }
     {
-        let credentials = self.credentials;
-        let mut request = [0u8; Peer::MAX_PACKET];
-        octets::fill(&mut request, q);
-        let mut reply = [0u8; Peer::REPLY_ROOM];
-        octets::fill(&mut reply, w);
-        Peer {
-            stage,
-            credentials,
-            challenges,
-            request,
-            requestlen: q.len() as u16,
-            reply,
-            replylen: w.len() as u16,
-        }
+        octets::part(&self.reply, 0, self.replylen as usize)
     }
 
-    // The Success Response or Failure Response w to q.
-    fn answered(self, stage: Stage, q: &[u8], w: &[u8]) -> Peer
-        requires { (length q.now ≤ max_packet) × (length w.now ≤ reply_room) }
-        ensures { result ≡ answered stage q.now w.now self }
+    // ---- what a move changes
+    fn keep_request(&mut self, x: Received)
+        ensures { self.new ≡ with_request x.entry.octets.now self.old }
     {
-        self.answered_by(stage, self.challenges, q, w)
+        octets::fill(&mut self.request, x.octets);
+        self.requestlen = x.octets.len() as u16;
     }
 
-    // The Response w to the Challenge q, and the string that is to answer it.
-    fn responded(self, k: Packet, q: &[u8], random: [u8; 16], string: [u8; 20], w: &[u8]) -> Peer
-        requires { (length q.now ≤ max_packet) × (length w.now ≤ reply_room) × (string ≡ string_to (challenge_in k q.now) random (own_name self) self.credentials.hash) }
-        ensures { result ≡ responded (challenge_in k q.now) random k.chapid q.now w.now self }
+    // The reply w was sent.
+    fn sent(&mut self, stage: Stage, w: &[u8])
+        requires { length w.now ≤ reply_room }
+        ensures { self.new ≡ at_stage stage self.old.credentials self.old.challenges (with_reply w.now self.old) }
     {
-        let chapid = k.chapid;
-        let challenges = Challenges {
-            authenticator: packet::sixteen_at(q, k.challenge.start),
-            own: random,
-            chapid,
-            expected: string,
+        self.stage = stage;
+        octets::fill(&mut self.reply, w);
+        self.replylen = w.len() as u16;
+    }
+
+    // ---- the moves of a packet
+    // A repeat brings the stored reply again.
+    fn repeat(&self, reply: &mut [u8]) -> Result<Reply, Refusal>
+        ensures { Replies (fitting (length reply.old) self.now (outcome 0 (last_reply self.now) self.now)) result self.now reply.old reply.new }
+    {
+        let n = writers::send(self.last_reply(), reply)?;
+        wrote(n)
+    }
+
+    // The Response to a Challenge.
+    fn respond(&mut self, x: Received, random: [u8; 16], reply: &mut [u8]) -> Result<Reply, Refusal>
+        ensures { Replies (moved_of move.Respond self.old x.entry.packet x.entry.octets.now random (length reply.old)) result self.new reply.old reply.new }
+    {
+        let ids = Ids {
+            id: x.packet.id,
+            chapid: x.packet.chapid,
         };
-        self.answered_by(Stage::ChallengeResponseSent, challenges, q, w)
+        let authenticator = octets::array_at(x.octets, x.packet.challenge.start);
+        let sent = send_response(ids, authenticator, random, &self.credentials, reply)?;
+        self.challenges = sent.challenges;
+        self.keep_request(x);
+        self.sent(Stage::ChallengeResponseSent, octets::part(reply, 0, sent.n));
+        wrote(sent.n)
     }
 
-    // WAITING, keeping the Failure Request q, R=1, and its C.
-    fn awaiting(self, k: Packet, q: &[u8]) -> Peer
-        requires { length q.now ≤ max_packet }
-        ensures { result ≡ awaiting (renewed_in k q.now) q.now self }
+    // The Success Response to the right string, all of whose digits are compared. Another ends the login.
+    fn confirm(&mut self, x: Received, reply: &mut [u8]) -> Result<Reply, Refusal>
+        ensures { Replies (moved_of move.Confirm self.old x.entry.packet x.entry.octets.now [] (length reply.old)) result self.new reply.old reply.new }
     {
-        let credentials = self.credentials;
-        let own = self.challenges.own;
-        let chapid = self.challenges.chapid;
-        let expected = self.challenges.expected;
-        let challenges = Challenges {
-            authenticator: packet::hex_sixteen_at(q, k.challenge.start),
-            own,
-            chapid,
-            expected,
+        let right = mschap::authenticator_digits(self.challenges.expected);
+        let digits = octets::part(x.octets, x.packet.response.start, 40);
+        if !octets::equal(digits, &right) {
+            self.stage = Stage::Failed;
+            return said(Done::Ended);
+        }
+        let n = writers::write_success_response(x.packet.id, reply)?;
+        self.keep_request(x);
+        self.sent(Stage::SuccessResponseSent, octets::part(reply, 0, n));
+        wrote(n)
+    }
+
+    // The Failure Response to R=0.
+    fn fail(&mut self, x: Received, reply: &mut [u8]) -> Result<Reply, Refusal>
+        ensures { Replies (fitting (length reply.old) self.old (outcome 0 (failure_response x.entry.packet.id.0) (answered stage.FailureResponseSent x.entry.octets.now (failure_response x.entry.packet.id.0) self.old))) result self.new reply.old reply.new }
+    {
+        let n = writers::write_failure_response(x.packet.id, reply)?;
+        self.keep_request(x);
+        self.sent(Stage::FailureResponseSent, octets::part(reply, 0, n));
+        wrote(n)
+    }
+
+    // WAITING, keeping the Failure Request x, R=1, and its C.
+    #[tactic(auto, unfolding(crate::specs::State::awaiting, crate::specs::Calls::renewed_in))]
+    fn wait(&mut self, x: Received)
+        ensures { self.new ≡ awaiting (renewed_in x.entry.packet x.entry.octets.now) x.entry.octets.now self.old }
+    {
+        self.stage = Stage::Waiting;
+        self.challenges = Challenges {
+            authenticator: packet::hex_sixteen_at(x.octets, x.packet.challenge.start),
+            ..self.challenges
         };
-        let mut request = [0u8; Peer::MAX_PACKET];
-        octets::fill(&mut request, q);
-        let reply = self.reply;
-        Peer {
-            stage: Stage::Waiting,
-            credentials,
-            challenges,
-            request,
-            requestlen: q.len() as u16,
-            reply,
-            replylen: self.replylen,
+        self.keep_request(x);
+    }
+
+    // Takes a packet. A refusal leaves the state as it was.
+    fn take(&mut self, x: Received, random: [u8; 16], reply: &mut [u8]) -> Result<Reply, Refusal>
+        ensures { Replies (taken_by (right_digits self.old) self.old x.entry.packet x.entry.octets.now random (length reply.old)) result self.new reply.old reply.new }
+    {
+        match turn_in(self.stage, x, self.last_request()) {
+            Move::NotTaken => Err(Refusal::NotTaken),
+            Move::WrongIdentifier => Err(Refusal::WrongIdentifier),
+            Move::Again => self.repeat(reply),
+            Move::Respond => self.respond(x, random, reply),
+            Move::Confirm => self.confirm(x, reply),
+            Move::Fail => self.fail(x, reply),
+            Move::Wait => {
+                self.wait(x);
+                said(Done::NeedsCredentials)
+            }
+            Move::Succeed => {
+                self.stage = Stage::Success;
+                said(Done::Authenticated)
+            }
+            Move::End => {
+                self.stage = Stage::Failed;
+                said(Done::Ended)
+            }
         }
     }
 
-    // New credentials, the Response w, and the string that is to answer it.
-    fn supplied(
-        self,
+    // What was read of the octets s: a packet up to L, or a refusal.
+    fn receive(
+        &mut self,
+        read: Result<Packet, Refusal>,
+        s: &[u8],
+        random: [u8; 16],
+        reply: &mut [u8],
+    ) -> Result<Reply, Refusal>
+        requires { (told_reading read).value.length ≤ max_packet }
+        ensures { Replies (read_by (right_digits self.old) (told_reading read) self.old s.now random (length reply.old)) result self.new reply.old reply.new }
+    {
+        let packet = read?;
+        let octets = octets::part(s, 0, packet.length);
+        self.take(Received { packet, octets }, random, reply)
+    }
+
+    pub fn step(mut self, packet: &[u8], random: [u8; 16], reply: &mut [u8]) -> PeerStep
+        ensures { DoesTelling (step_of self packet.now random (length reply.old)) (step_text self packet.now random (length reply.old)) result reply.old reply.new }
+    {
+        let read = packet::read(End::Peer, packet);
+        let answer = self.receive(read, packet, random, reply);
+        // a refusal tells no text
+        let text = packet::text_told(answer.and(read));
+        PeerStep {
+            answer,
+            text,
+            peer: self,
+        }
+    }
+
+    // ---- the two calls of WAITING
+    // New credentials answer C by a Response, under the kept request's Identifier and MS-CHAPv2-ID.
+    fn resume(
+        &mut self,
         name: &[u8],
         hash: [u8; 16],
         random: [u8; 16],
-        chapid: ChapId,
-        string: [u8; 20],
-        w: &[u8],
-    ) -> Peer
-        requires { (length name.now ≤ max_name) × (length w.now ≤ reply_room) × (string ≡ string_to self.challenges.authenticator random name.now hash) }
-        ensures { result ≡ supplied name.now hash random chapid w.now self }
+        reply: &mut [u8],
+    ) -> Result<Reply, Refusal>
+        ensures { Replies (supply_of self.old name.now hash random (length reply.old)) result self.new reply.old reply.new }
     {
-        let authenticator = self.challenges.authenticator;
-        let challenges = Challenges {
-            authenticator,
-            own: random,
-            chapid,
-            expected: string,
-        };
-        let request = self.request;
-        let mut reply = [0u8; Peer::REPLY_ROOM];
-        octets::fill(&mut reply, w);
-        Peer {
-            stage: Stage::ChallengeResponseSent,
-            credentials: credentials_of(name, hash),
-            challenges,
-            request,
-            requestlen: self.requestlen,
-            reply,
-            replylen: w.len() as u16,
+        if self.stage != Stage::Waiting {
+            return Err(Refusal::NotTaken);
         }
+        let credentials = credentials_of(name, hash)?;
+        let kept = self.last_request();
+        let ids = Ids {
+            id: Identifier(octets::octet(kept, 1)),
+            chapid: ChapId(octets::octet(kept, 6)),
+        };
+        let authenticator = self.challenges.authenticator;
+        let sent = send_response(ids, authenticator, random, &credentials, reply)?;
+        self.credentials = credentials;
+        self.challenges = sent.challenges;
+        self.sent(Stage::ChallengeResponseSent, octets::part(reply, 0, sent.n));
+        wrote(sent.n)
     }
 
-    fn refuse(self, why: Refusal, reply: &mut [u8]) -> PeerStep
-        ensures { DoesTelling (refused (refusal_of why) self) nowhere result reply.old reply.new }
+    pub fn supply(
+        mut self,
+        name: &[u8],
+        hash: [u8; 16],
+        random: [u8; 16],
+        reply: &mut [u8],
+    ) -> PeerStep
+        ensures { DoesTelling (supply_of self name.now hash random (length reply.old)) nowhere result reply.old reply.new }
     {
+        let answer = self.resume(name, hash, random, reply);
         PeerStep {
-            answer: Answer::Refused(why),
-            n: 0,
+            answer,
             text: packet::NOWHERE,
             peer: self,
         }
     }
 
-    // ---- a packet
-    // The state after the reply w. A repeat changes nothing; no more than four moves write a reply.
-    fn next(
-        self,
-        m: Move,
-        k: Packet,
-        q: &[u8],
-        random: [u8; 16],
-        string: [u8; 20],
-        w: &[u8],
-    ) -> Peer
-        requires { (length q.now ≤ max_packet) × (length w.now ≤ reply_room) × KeptBy 0 m string (string_to (challenge_in k q.now) random (own_name self) self.credentials.hash) }
-        ensures { result ≡ next_of m k q.now random w.now self }
+    fn abandon(&mut self) -> Result<Reply, Refusal>
+        ensures { Replies (give_up_of self.old) result self.new [] [] }
     {
-        match m {
-            Move::NotTaken => self,
-            Move::WrongIdentifier => self,
-            Move::Again => self,
-            Move::Respond => self.responded(k, q, random, string, w),
-            Move::Confirm => self.answered(Stage::SuccessResponseSent, q, w),
-            Move::Fail => self.answered(Stage::FailureResponseSent, q, w),
-            Move::Wait => self,
-            Move::Succeed => self,
-            Move::End => self,
+        if self.stage != Stage::Waiting {
+            return Err(Refusal::NotTaken);
         }
+        self.stage = Stage::Failed;
+        said(Done::Ended)
     }
 
-    // The state after an answer.
-    fn after(
-        self,
-        answer: Answer,
-        m: Move,
-        k: Packet,
-        q: &[u8],
-        random: [u8; 16],
-        string: [u8; 20],
-        w: &[u8],
-    ) -> Peer
-        requires { (length q.now ≤ max_packet) × (length w.now ≤ reply_room) × KeptBy (number_of answer) m string (string_to (challenge_in k q.now) random (own_name self) self.credentials.hash) }
-        ensures { result ≡ left_by (number_of answer) m k q.now random w.now self }
-    {
-        match answer {
-            Answer::Written => self.next(m, k, q, random, string, w),
-            Answer::NeedsCredentials => self.awaiting(k, q),
-            Answer::Authenticated => self.staged(Stage::Success),
-            Answer::Ended => self.staged(Stage::Failed),
-            Answer::Refused(why) => self,
-        }
-    }
-
-    // The turn, its answer, and the state after it. The fields are lent here alone, and the state is made when all is
-    // written and computed: so it is copied once in and once out.
-    fn taken(self, k: Packet, q: &[u8], random: [u8; 16], reply: &mut [u8]) -> PeerStep
-        requires { length q.now ≤ max_packet }
-        ensures { Stepped (taken_by (right_digits self) self k q.now random (length reply.old)) (text_in k) result reply.old reply.new }
-    {
-        let stage = self.stage;
-        let expected = self.challenges.expected;
-        let hash = self.credentials.hash;
-        let m = turn_in(stage, k, q, first(&self.request, self.requestlen));
-        let last = first(&self.reply, self.replylen);
-        let name = named(&self.credentials.name, self.credentials.namelen);
-        let w = answer_to(m, k, q, random, expected, hash, name, last, reply);
-        let answer = w.answer;
-        let sent = octets::part(reply, 0, w.n);
-        let string = string_after(m, hash, k, q, sent);
-        let text = text_by(answer, k);
-        PeerStep {
-            answer,
-            n: w.n,
-            text,
-            peer: self.after(answer, m, k, q, random, string, sent),
-        }
-    }
-
-    fn take_packet(self, k: Packet, s: &[u8], random: [u8; 16], reply: &mut [u8]) -> PeerStep
-        requires { k.length ≤ max_packet }
-        ensures { Stepped (taken_by (right_digits self) self k (take k.length s.now) random (length reply.old)) (text_in k) result reply.old reply.new }
-    {
-        let q = octets::part(s, 0, k.length);
-        self.taken(k, q, random, reply)
-    }
-
-    fn take_reading(self, x: Reading, s: &[u8], random: [u8; 16], reply: &mut [u8]) -> PeerStep
-        requires { (told_reading x).value.length ≤ max_packet }
-        ensures { Stepped (read_by (right_digits self) (told_reading x) self s.now random (length reply.old)) (text_told (told_reading x)) result reply.old reply.new }
-    {
-        match x {
-            Reading::Refused(why) => self.refuse(why, reply),
-            Reading::Read(k) => self.take_packet(k, s, random, reply),
-        }
-    }
-
-    pub fn step(self, packet: &[u8], random: [u8; 16], reply: &mut [u8]) -> PeerStep
-        ensures { DoesTelling (step_of self packet.now random (length reply.old)) (step_text self packet.now random (length reply.old)) result reply.old reply.new }
-    {
-        let x = packet::read(End::Peer, packet);
-        self.take_reading(x, packet, random, reply)
-    }
-
-    // ---- the two calls of WAITING
-    // The state after the answer to a supply: the Response w was written, or nothing changes.
-    fn resumed(
-        self,
-        answer: Answer,
-        name: &[u8],
-        hash: [u8; 16],
-        random: [u8; 16],
-        chapid: ChapId,
-        string: [u8; 20],
-        w: &[u8],
-    ) -> Peer
-        requires { (length name.now ≤ max_name) × (length w.now ≤ reply_room) × KeptBy (number_of answer) Respond string (string_to self.challenges.authenticator random name.now hash) }
-        ensures { result ≡ pick (eqb (number_of answer) 0) (supplied name.now hash random chapid w.now self) self }
-    {
-        match answer {
-            Answer::Written => self.supplied(name, hash, random, chapid, string, w),
-            Answer::NeedsCredentials => self,
-            Answer::Authenticated => self,
-            Answer::Ended => self,
-            Answer::Refused(why) => self,
-        }
-    }
-
-    fn resume(self, name: &[u8], hash: [u8; 16], random: [u8; 16], reply: &mut [u8]) -> PeerStep
-        requires { length name.now ≤ max_name }
-        ensures { DoesTelling (resume_of self name.now hash random (length reply.old)) nowhere result reply.old reply.new }
-    {
-        let authenticator = self.challenges.authenticator;
-        let keys = Keys {
-            authenticator,
-            own: random,
-            hash,
-        };
-        let last = first(&self.request, self.requestlen);
-        let id = Identifier(octets::octet(last, 1));
-        let chapid = ChapId(octets::octet(last, 6));
-        let w = send_response(id, chapid, keys, name, reply);
-        let answer = w.answer;
-        let sent = octets::part(reply, 0, w.n);
-        let string = string_in(hash, authenticator, sent);
-        PeerStep {
-            answer,
-            n: w.n,
-            text: packet::NOWHERE,
-            peer: self.resumed(answer, name, hash, random, chapid, string, sent),
-        }
-    }
-
-    pub fn supply(self, name: &[u8], hash: [u8; 16], random: [u8; 16], reply: &mut [u8]) -> PeerStep
-        ensures { DoesTelling (supply_of self name.now hash random (length reply.old)) nowhere result reply.old reply.new }
-    {
-        let stage = self.stage;
-        if !is_waiting(stage) {
-            return self.refuse(Refusal::NotTaken, reply);
-        }
-        if Peer::MAX_NAME < name.len() {
-            return self.refuse(Refusal::BadArgument, reply);
-        }
-        self.resume(name, hash, random, reply)
-    }
-
-    pub fn give_up(self) -> PeerStep
+    pub fn give_up(mut self) -> PeerStep
         ensures { DoesTelling (give_up_of self) nowhere result [] [] }
     {
-        let stage = self.stage;
-        if !is_waiting(stage) {
-            return PeerStep {
-                answer: Answer::Refused(Refusal::NotTaken),
-                n: 0,
-                text: packet::NOWHERE,
-                peer: self,
-            };
-        }
+        let answer = self.abandon();
         PeerStep {
-            answer: Answer::Ended,
-            n: 0,
+            answer,
             text: packet::NOWHERE,
-            peer: self.staged(Stage::Failed),
+            peer: self,
         }
     }
 
@@ -754,19 +525,17 @@ impl Peer {
     pub fn new(name: &[u8], hash: [u8; 16]) -> PeerStep
         ensures { DoesTelling (new_of name.now hash) nowhere result [] [] }
     {
-        if Peer::MAX_NAME < name.len() {
-            return PeerStep {
-                answer: Answer::Refused(Refusal::BadArgument),
-                n: 0,
+        match credentials_of(name, hash) {
+            Ok(credentials) => PeerStep {
+                answer: said(Done::Written),
                 text: packet::NOWHERE,
-                peer: Peer::initial(Stage::Failed, &[], [0u8; 16]),
-            };
-        }
-        PeerStep {
-            answer: Answer::Written,
-            n: 0,
-            text: packet::NOWHERE,
-            peer: Peer::initial(Stage::Begin, name, hash),
+                peer: Peer::initial(Stage::Begin, credentials),
+            },
+            Err(why) => PeerStep {
+                answer: Err(why),
+                text: packet::NOWHERE,
+                peer: Peer::initial(Stage::Failed, Credentials::NONE),
+            },
         }
     }
 }

@@ -2,11 +2,7 @@
 use Rattle.std.specs.Prelude.{ℕ, ◌+◌, ◌%◌, List, length, get_or, set}
 use Rattle.std.specs.Int.Bits.{bit_xor}
 use Rattle.octets.specs.Lists.{cells, turns}
-
--- the octets S[0] to S[255], and the place j
-pub record Mixed : Type 0 where
-  pub s : List ℕ
-  pub j : ℕ
+use Rattle.rc4.specs.declared.Mixed.{Mixed}
 
 -- S[i] and S[j] change places
 unfoldable pub swapped : List ℕ → ℕ → ℕ → List ℕ

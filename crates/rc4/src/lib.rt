@@ -1,77 +1,73 @@
 // RC4 with a key of sixteen octets.
 #![tactic(auto)]
 
-ghost use Rattle.std.specs.Prelude.{◌≡◌, ◌<◌};
-ghost use Rattle.rc4.specs.Rc4.{Mixed, mixed, scheduled, output, enciphered};
+ghost use Rattle.std.specs.Prelude.{◌≡◌};
 ghost use Rattle.octets.specs.Lists.{cells};
+ghost use Rattle.rc4.specs.Rc4.{mixed, scheduled, output, enciphered};
+
+// The octets S[0] to S[255], and the place j.
+#[derive(Drop)]
+struct Mixed {
+    s: [u8; 256],
+    j: u8,
+}
+
+impl Mixed {
+    // j = j + S[i] + x; then S[i] and S[j] change places: by two writes, since `swap` asks which place is the lower, and j depends on the key.
+    #[tactic(auto, unfolding(crate::specs::Rc4::mixed, crate::specs::Rc4::swapped))]
+    fn mix(&mut self, i: u8, x: u8)
+        ensures { self.new ≡ mixed i x self.old }
+    {
+        let a = self.s[usize::from(i)];
+        self.j = self.j.wrapping_add(a).wrapping_add(x);
+        self.s[usize::from(i)] = self.s[usize::from(self.j)];
+        self.s[usize::from(self.j)] = a;
+    }
+
+    // S[S[i] + S[j]].
+    #[tactic(auto, unfolding(crate::specs::Rc4::output))]
+    fn output(&self, i: u8) -> u8
+        ensures { result ≡ output i self.now }
+    {
+        let a = self.s[usize::from(i)];
+        let b = self.s[usize::from(self.j)];
+        self.s[usize::from(a.wrapping_add(b))]
+    }
+}
 
 // S[i] = i.
 fn identity() -> [u8; 256]
     ensures { result ≡ cells 256 (λ k. k) }
 {
-    let mut s = [0u8; 256];
-    let mut i = 0;
-    while i < 256 {
-        s[i] = i as u8;
-        i += 1;
-    }
-    s
-}
-
-fn wide(x: u8) -> usize
-    ensures { (result ≡ x) × (result < 256) }
-{
-    x as usize
-}
-
-// j = j + S[i] + x; then S[i] and S[j] change places. Gives j.
-fn mix(s: &mut [u8; 256], i: usize, j: usize, x: u8) -> usize
-    requires { (i < 256) × (j < 256) }
-    ensures { (◌≡◌ {A = Mixed} (record { s = s.new; j = result }) (mixed i x (record { s = s.old; j = j }))) × (result < 256) }
-{
-    let a = s[i];
-    let k = (j + wide(a) + wide(x)) % 256;
-    let b = s[k];
-    s[i] = b;
-    s[k] = a;
-    k
+    std::array::from_fn(|i| i as u8)
 }
 
 // The key schedule.
 fn schedule(key: [u8; 16]) -> [u8; 256]
     ensures { result ≡ scheduled key }
 {
-    let mut s = identity();
-    let mut j = 0;
-    let mut i = 0;
-    while i < 256 {
-        let x = key[i % 16];
-        j = mix(&mut s, i, j, x);
-        i += 1;
+    let mut state = Mixed {
+        s: identity(),
+        j: 0,
+    };
+    for i in 0..256 {
+        state.mix(i as u8, key[i % 16]);
     }
-    s
-}
-
-// S[S[i] + S[j]].
-fn output_of(s: &[u8; 256], i: usize, j: usize) -> u8
-    requires { (i < 256) × (j < 256) }
-    ensures { result ≡ output i (record { s = s.now; j = j }) }
-{
-    s[(wide(s[i]) + wide(s[j])) % 256]
+    state.s
 }
 
 // Enciphers m, or deciphers it.
 pub fn encipher(key: [u8; 16], m: &mut [u8])
     ensures { m.new ≡ enciphered key m.old }
 {
-    let mut s = schedule(key);
-    let mut j = 0;
-    let mut k = 0;
-    while k < m.len() {
-        let i = (k + 1) % 256;
-        j = mix(&mut s, i, j, 0);
-        let x = output_of(&s, i, j);
-        m[k] = m[k] ^ x;
-        k += 1;
+    let mut state = Mixed {
+        s: schedule(key),
+        j: 0,
+    };
+    let mut i: u8 = 0;
+    for x in m.iter_mut() {
+        i = i.wrapping_add(1);
+        state.mix(i, 0);
+        *x ^= state.output(i);
     }
 }

@@ -1,16 +1,14 @@
 -- The lines that an account table is made of: name, a tab, password or `hash=` and 32 hex digits, and, if it is not 0,
 -- a tab and the code. Empty lines and those that begin with `#` are passed over.
-use Rattle.std.specs.Prelude.{ℕ, suc, ◌+◌, ◌-◌, List, [], ◌∷◌, Bool, true, not, length, take, drop, replicate, ltb, eqb}
+use Rattle.std.specs.Prelude.{ℕ, suc, ◌+◌, ◌-◌, List, [], ◌∷◌, Bool, true, not, Option, Some, None, Result, Ok, Err, length, take, drop, ltb, eqb}
 use Rattle.octets.specs.Choice.{pick}
 use Rattle.octets.specs.Lists.{cells}
 use Rattle.octets.specs.Octets.{octet_is, same, stands_at, hex_stands, unhex_at}
-use Rattle.accounts.specs.Accounts.{is_code}
 use Rattle.password.specs.Hashed.{hashed_of}
-use Rattle.password.specs.declared.Spelling.{Spelling}
-use Rattle.password.specs.declared.Spelling.TheVariants as spelling
-use Rattle.roster.specs.declared.Line.{Line}
-use Rattle.roster.specs.declared.Line.TheVariants as line
-use Rattle.roster.specs.declared.Secret.{Secret}
+use Rattle.password.specs.declared.PasswordError.{PasswordError}
+use Rattle.password.specs.declared.PasswordError.TheVariants as unspelt
+use Rattle.roster.specs.declared.LineError.{LineError}
+use Rattle.roster.specs.declared.LineError.TheVariants as error
 use Rattle.roster.specs.declared.Entry.{Entry}
 
 -- ---- fields
@@ -35,63 +33,68 @@ unfoldable pub trimmed : List ℕ → List ℕ
 trimmed s = pick (eqb (length s) 0) s (pick (not (octet_is s (length s - 1) 13)) s (take (length s - 1) s))
 
 -- ---- the second field
-abbrev pub secret : Line → List ℕ → Secret
-secret l hash = record { line = l; hash = hash }
-
 -- `hash=`
 abbrev pub word_hash : List ℕ
 word_hash = 104 ∷ 97 ∷ 115 ∷ 104 ∷ 61 ∷ []
 
-unfoldable pub hex_secret : List ℕ → Secret
+unfoldable pub hex_secret : List ℕ → Result (List ℕ) LineError
 hex_secret s =
-    pick (not (eqb (length s) 37)) (secret line.BadHash (replicate 16 0))
-    (pick (not (hex_stands true s 5 32)) (secret line.BadHash (replicate 16 0))
-    (secret line.Account (cells 16 (unhex_at (drop 5 s)))))
+    pick (not (eqb (length s) 37)) (Err error.BadHash)
+    (pick (not (hex_stands true s 5 32)) (Err error.BadHash)
+    (Ok (cells 16 (unhex_at (drop 5 s)))))
 
-abbrev pub spelt : Spelling → List ℕ → Secret
-spelt spelling.Good hash = secret line.Account hash
-spelt spelling.NotUtf8 hash = secret line.NotUtf8 hash
-spelt spelling.TooLong hash = secret line.LongPassword hash
+abbrev pub error_of : PasswordError → LineError
+error_of unspelt.NotUtf8 = error.NotUtf8
+error_of unspelt.TooLong = error.LongPassword
 
-unfoldable pub secret_of : List ℕ → Secret
-secret_of s = pick (stands_at s 0 word_hash) (hex_secret s) (spelt (hashed_of s).spelling (hashed_of s).hash)
+abbrev pub spelt : Result (List ℕ) PasswordError → Result (List ℕ) LineError
+spelt (Ok hash) = Ok hash
+spelt (Err why) = Err (error_of why)
+
+unfoldable pub secret_of : List ℕ → Result (List ℕ) LineError
+secret_of s = pick (stands_at s 0 word_hash) (hex_secret s) (spelt (hashed_of s))
 
 -- ---- the third field
--- `0`, `646`, `647`, `648` or `649`; 1, which is no code, for any other
-unfoldable pub code_in : List ℕ → ℕ
+-- `0`, `646`, `647`, `648` or `649`, and no other
+unfoldable pub code_in : List ℕ → Option ℕ
 code_in s =
-    pick (same s (48 ∷ [])) 0
-    (pick (same s (54 ∷ 52 ∷ 54 ∷ [])) 646
-    (pick (same s (54 ∷ 52 ∷ 55 ∷ [])) 647
-    (pick (same s (54 ∷ 52 ∷ 56 ∷ [])) 648
-    (pick (same s (54 ∷ 52 ∷ 57 ∷ [])) 649 1))))
+    pick (same s (48 ∷ [])) (Some 0)
+    (pick (same s (54 ∷ 52 ∷ 54 ∷ [])) (Some 646)
+    (pick (same s (54 ∷ 52 ∷ 55 ∷ [])) (Some 647)
+    (pick (same s (54 ∷ 52 ∷ 56 ∷ [])) (Some 648)
+    (pick (same s (54 ∷ 52 ∷ 57 ∷ [])) (Some 649) None))))
 
 -- after the name: no third field is code 0
-unfoldable pub code_after : List ℕ → ℕ
-code_after rest = pick (not (has 9 rest)) 0 (code_in (after 9 rest))
+unfoldable pub code_after : List ℕ → Option ℕ
+code_after rest = pick (not (has 9 rest)) (Some 0) (code_in (after 9 rest))
 
 -- ---- a line
-abbrev pub entry : Line → ℕ → List ℕ → ℕ → Entry
-entry l code hash namelen = record { line = l; code = code; hash = hash; namelen = namelen }
-
-abbrev pub no_entry : Line → Entry
-no_entry l = entry l 0 (replicate 16 0) 0
+abbrev pub entry : ℕ → List ℕ → ℕ → Entry
+entry code hash namelen = record { code = code; hash = hash; namelen = namelen }
 
 -- `#`
 abbrev pub hash_mark : ℕ
 hash_mark = 35
 
--- a line with a name of n octets
-unfoldable pub entry_with : List ℕ → ℕ → Entry
-entry_with s n =
-    pick (not (is_code (code_after (after 9 s)))) (no_entry line.BadCode)
-    (entry (secret_of (before 9 (after 9 s))).line (code_after (after 9 s)) (secret_of (before 9 (after 9 s))).hash n)
+-- with a name of n octets
+abbrev pub entry_by : Option ℕ → Result (List ℕ) LineError → ℕ → Result Entry LineError
+entry_by None secret n = Err error.BadCode
+entry_by (Some code) (Err why) n = Err why
+entry_by (Some code) (Ok hash) n = Ok (entry code hash n)
 
-unfoldable pub entry_of : List ℕ → Entry
+unfoldable pub entry_with : List ℕ → ℕ → Result Entry LineError
+entry_with s n = entry_by (code_after (after 9 s)) (secret_of (before 9 (after 9 s))) n
+
+abbrev pub some_entry : Result Entry LineError → Result (Option Entry) LineError
+some_entry (Ok e) = Ok (Some e)
+some_entry (Err why) = Err why
+
+-- the account of a line, none, or what is wrong with it
+unfoldable pub entry_of : List ℕ → Result (Option Entry) LineError
 entry_of s =
-    pick (eqb (length s) 0) (no_entry line.Blank)
-    (pick (octet_is s 0 hash_mark) (no_entry line.Blank)
-    (pick (not (has 9 s)) (no_entry line.NoPassword)
-    (pick (eqb (upto 9 s) 0) (no_entry line.NoName)
-    (pick (ltb 256 (upto 9 s)) (no_entry line.LongName)
-    (entry_with s (upto 9 s))))))
+    pick (eqb (length s) 0) (Ok None)
+    (pick (octet_is s 0 hash_mark) (Ok None)
+    (pick (not (has 9 s)) (Err error.NoPassword)
+    (pick (eqb (upto 9 s) 0) (Err error.NoName)
+    (pick (ltb 256 (upto 9 s)) (Err error.LongName)
+    (some_entry (entry_with s (upto 9 s)))))))

@@ -1,11 +1,12 @@
 -- The table that lines make.
-use Rattle.std.specs.Prelude.{ℕ, suc, ◌+◌, ◌≡◌, List, [], ◌∷◌, ◌++◌, Bool, true, false, not, length, take, ltb, eqb}
+use Rattle.std.specs.Prelude.{ℕ, suc, ◌+◌, ◌≡◌, List, [], ◌∷◌, ◌++◌, Option, Some, None, Result, Ok, Err, is_err, length, take, ltb, eqb}
 use Rattle.octets.specs.Choice.{pick}
 use Rattle.octets.specs.Lists.{over}
 use Rattle.accounts.specs.Account.{record_for}
 use Rattle.roster.specs.Lines.{trimmed, entry_of}
-use Rattle.roster.specs.declared.Line.{Line}
-use Rattle.roster.specs.declared.Line.TheVariants.{Blank, Account, NoPassword, NoName, LongName, BadCode, BadHash, NotUtf8, LongPassword, Full}
+use Rattle.roster.specs.declared.Entry.{Entry}
+use Rattle.roster.specs.declared.LineError.{LineError}
+use Rattle.roster.specs.declared.LineError.TheVariants.{Full}
 
 -- ---- the lines of a text: what its line feeds part, and what stands after the last of them
 abbrev pub beginning : ℕ → List (List ℕ) → List (List ℕ)
@@ -17,81 +18,70 @@ lines_of [] = []
 lines_of (x ∷ xs) = pick (eqb x 10) ([] ∷ lines_of xs) (beginning x (lines_of xs))
 
 -- ---- what a line adds
-abbrev pub is_account : Line → Bool
-is_account Blank = false
-is_account Account = true
-is_account NoPassword = false
-is_account NoName = false
-is_account LongName = false
-is_account BadCode = false
-is_account BadHash = false
-is_account NotUtf8 = false
-is_account LongPassword = false
-is_account Full = false
-
-abbrev pub is_fault : Line → Bool
-is_fault Blank = false
-is_fault Account = false
-is_fault NoPassword = true
-is_fault NoName = true
-is_fault LongName = true
-is_fault BadCode = true
-is_fault BadHash = true
-is_fault NotUtf8 = true
-is_fault LongPassword = true
-is_fault Full = true
-
--- what a line is, and the table after it
+-- what is wrong with a line, if anything, and the table after it
 pub record AfterLine : Type 0 where
-  pub line : Line
+  pub ended : Result (Unit {0}) LineError
   pub table : List ℕ
 
-abbrev pub after_line : Line → List ℕ → AfterLine
-after_line l t = record { line = l; table = t }
+abbrev pub after_line : Result (Unit {0}) LineError → List ℕ → AfterLine
+after_line r t = record { ended = r; table = t }
 
 -- the table t with the record q at its end, where both fit the room
 unfoldable pub added_to : ℕ → List ℕ → List ℕ → List ℕ
 added_to room t q = pick (ltb room (length t + length q)) t (t ++ q)
 
--- a record that adds nothing did not fit
-unfoldable pub added_by : Line → ℕ → List ℕ → List ℕ → AfterLine
-added_by l room t q =
-    pick (not (is_account l)) (after_line l t)
-    (pick (eqb (length (added_to room t q)) (length t)) (after_line Full (added_to room t q))
-    (after_line l (added_to room t q)))
+-- a line's record: the name is its first octets
+unfoldable pub record_in : Entry → List ℕ → List ℕ
+record_in e s = record_for e.code e.hash (take e.namelen s)
 
--- the line's record: the name is its first octets
-unfoldable pub record_in : List ℕ → List ℕ
-record_in s = record_for (entry_of s).code (entry_of s).hash (take (entry_of s).namelen s)
+-- a record that adds nothing did not fit
+unfoldable pub added_by : Result (Option Entry) LineError → ℕ → List ℕ → List ℕ → AfterLine
+added_by (Err why) room t s = after_line (Err why) t
+added_by (Ok None) room t s = after_line (Ok tt) t
+added_by (Ok (Some e)) room t s =
+    pick (eqb (length (added_to room t (record_in e s))) (length t)) (after_line (Err Full) (added_to room t (record_in e s)))
+    (after_line (Ok tt) (added_to room t (record_in e s)))
 
 unfoldable pub added_line : ℕ → List ℕ → List ℕ → AfterLine
-added_line room t s = added_by (entry_of s).line room t (record_in s)
+added_line room t s = added_by (entry_of s) room t s
 
 -- ---- what all lines make: up to the first that is wrong
-pub record Result : Type 0 where
+pub record All : Type 0 where
   pub last : AfterLine
   pub lines : ℕ
 
-abbrev pub result : AfterLine → ℕ → Result
-result r k = record { last = r; lines = k }
+abbrev pub all : AfterLine → ℕ → All
+all r k = record { last = r; lines = k }
 
 -- k lines made the table t, and the lines ls are to come
-unfoldable pub made_from : ℕ → ℕ → List ℕ → List (List ℕ) → Result
-made_from room k t [] = result (after_line Blank t) k
+unfoldable pub made_from : ℕ → ℕ → List ℕ → List (List ℕ) → All
+made_from room k t [] = all (after_line (Ok tt) t) k
 made_from room k t (l ∷ ls) =
-    pick (is_fault (added_line room t (trimmed l)).line) (result (added_line room t (trimmed l)) (suc k))
+    pick (is_err (added_line room t (trimmed l)).ended) (all (added_line room t (trimmed l)) (suc k))
     (made_from room (suc k) (added_line room t (trimmed l)).table ls)
 
-unfoldable pub made_of : ℕ → List ℕ → Result
-made_of room text = pick (ltb 65536 room) (result (after_line Full []) 0) (made_from room 0 [] (lines_of text))
+unfoldable pub made_of : ℕ → List ℕ → All
+made_of room text = pick (ltb 65536 room) (all (after_line (Err Full) []) 0) (made_from room 0 [] (lines_of text))
 
 -- the table stands at the front of the buffer, and the rest of it is as before
-pub record Makes (o : AfterLine) (l : Line) (n : ℕ) (before after : List ℕ) : Type 0 where
-  pub told : l ≡ o.line
+pub record Makes (o : AfterLine) (ended : Result (Unit {0}) LineError) (n : ℕ) (before after : List ℕ) : Type 0 where
+  pub told : ended ≡ o.ended
   pub count : n ≡ length o.table
   pub written : after ≡ over o.table before
 
+-- what a line is told as, and how long the table is then, which had n octets
+abbrev pub ended_in : Result ℕ LineError → Result (Unit {0}) LineError
+ended_in (Ok next) = Ok tt
+ended_in (Err why) = Err why
+
+abbrev pub len_in : Result ℕ LineError → ℕ → ℕ
+len_in (Ok next) n = next
+len_in (Err why) n = n
+
+abbrev pub Takes : AfterLine → Result ℕ LineError → ℕ → List ℕ → List ℕ → Type 0
+Takes o r n before after = Makes o (ended_in r) (len_in r n) before after
+
 -- what is told of a text: how it ended, how long the table is, how many lines were read
-pub record MadeBy (text before after : List ℕ) (ended : Line) (len lines : ℕ) : Type 0 where
+pub record MadeBy (text before after : List ℕ) (ended : Result (Unit {0}) LineError) (len lines : ℕ) : Type 0 where
   pub makes : Makes (made_of (length before) text).last ended len before after
   pub count : lines ≡ (made_of (length before) text).lines

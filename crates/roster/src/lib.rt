@@ -1,19 +1,17 @@
 // Account tables made of lines of text: document 01, "Account table".
 #![tactic(auto)]
 
-ghost use Rattle.std.specs.Prelude.{◌≡◌, ◌≤◌, length, take, drop};
+ghost use Rattle.std.specs.Prelude.{◌≡◌, ◌==◌, ◌≤◌, length, take, drop, position};
 ghost use Rattle.octets.specs.Lists.{cells};
 ghost use Rattle.octets.specs.Octets.{unhex_at};
-ghost use Rattle.roster.specs.Lines.{upto, before, after, has, trimmed, hex_secret, spelt, secret_of, code_in, code_after, no_entry, entry_with, entry_of};
-ghost use Rattle.roster.specs.Made.{is_account, is_fault, added_line, Makes, MadeBy};
+ghost use Rattle.roster.specs.Lines.{before, after, trimmed, error_of, hex_secret, secret_of, code_in, code_after, entry_with, entry_of};
+ghost use Rattle.roster.specs.Made.{added_line, Takes, MadeBy};
 
-use password::Spelling;
+use password::PasswordError;
 
-// What a line is: blank, an account, or what is wrong with it. Full: its record no longer fits the table.
-#[derive(Clone, Copy)]
-pub enum Line {
-    Blank,
-    Account,
+// What is wrong with a line. Full: its record no longer fits the table.
+#[derive(Clone, Copy, PartialEq, Eq)]
+pub enum LineError {
     NoPassword,
     NoName,
     LongName,
@@ -24,330 +22,223 @@ pub enum Line {
     Full,
 }
 
-// A password's hash, or what is wrong with the password.
-#[derive(Clone, Copy)]
-pub struct Secret {
-    pub line: Line,
-    pub hash: [u8; 16],
+impl From<PasswordError> for LineError {
+    ghost from_gives = { λ why e. e ≡ error_of why };
+
+    fn from(why: PasswordError) -> LineError {
+        match why {
+            PasswordError::NotUtf8 => LineError::NotUtf8,
+            PasswordError::TooLong => LineError::LongPassword,
+        }
+    }
 }
 
-// What a line says. The name is the line's first octets.
+// The account of a line. The name is the line's first octets: its length and no slice, since it is the definition that makes an entry.
 #[derive(Clone, Copy)]
 pub struct Entry {
-    pub line: Line,
     pub code: u16,
     pub hash: [u8; 16],
     pub namelen: usize,
 }
 
-// What was made of a line: how long the table is after it.
-#[derive(Clone, Copy)]
-struct AfterLine {
-    line: Line,
-    len: usize,
-}
-
-// What was made of a text: how long the table is, and how many lines were read. ended: Blank where that was all of them, and
-// else what is wrong with the last.
+// What was made of a text: what is wrong with the last line that was read, if anything, how many lines were read, and how long the
+// table is.
 #[derive(Clone, Copy)]
 pub struct Made {
-    pub ended: Line,
+    pub ended: Result<(), LineError>,
     pub lines: usize,
     pub len: usize,
 }
 
 // ---- fields
 
-// The place of the first x, or the end.
-fn place(s: &[u8], x: u8) -> usize
-    ensures { (result ≡ upto x s.now) × (result ≤ length s.now) }
+// The place of the first x.
+fn place(s: &[u8], x: u8) -> Option<usize>
+    ensures { result ≡ position (λ y. y == x) s.now }
 {
-    let mut i = 0;
-    while i < s.len() {
-        if s[i] == x {
-            return i;
-        }
-        i += 1;
-    }
-    i
+    s.iter().position(|y| *y == x)
 }
 
 // What stands before the first x, or all of s.
+#[tactic(auto, using(crate::proofs::Laws::places))]
 pub fn field_before(s: &[u8], x: u8) -> &[u8]
     ensures { result.now ≡ before x s.now }
 {
-    let n = place(s, x);
-    octets::part(s, 0, n)
+    match place(s, x) {
+        Some(n) => &s[..n],
+        None => s,
+    }
 }
 
 // What stands after the first x, if it is there.
+#[tactic(auto, using(crate::proofs::Laws::places))]
 pub fn field_after(s: &[u8], x: u8) -> &[u8]
     ensures { result.now ≡ after x s.now }
 {
-    let n = place(s, x);
-    octets::rest(s, n + 1)
-}
-
-fn has_octet(s: &[u8], x: u8) -> bool
-    ensures { result ≡ has x s.now }
-{
-    let n = place(s, x);
-    n < s.len()
+    match place(s, x) {
+        Some(n) => &s[n + 1..],
+        None => &s[..0],
+    }
 }
 
 // A line without the carriage return at its end.
+#[tactic(auto, unfolding(crate::specs::Lines::trimmed, octets::specs::Octets::octet_is, octets::specs::Choice::pick))]
 pub fn trim(s: &[u8]) -> &[u8]
     ensures { result.now ≡ trimmed s.now }
 {
-    if s.len() == 0 {
-        return s;
+    match s {
+        [front @ .., b'\r'] => front,
+        _ => s,
     }
-    let n = s.len() - 1;
-    if !octets::octet_is(s, n, 13) {
-        return s;
-    }
-    octets::part(s, 0, n)
 }
 
-// The octets of the 32 hex digits after `hash=`.
-fn hash_in(s: &[u8]) -> [u8; 16]
-    ensures { result ≡ cells 16 (unhex_at (drop 5 s.now)) }
-{
-    octets::from_hex(octets::rest(s, 5))
-}
-
-fn hex_secret(s: &[u8]) -> Secret
+// `hash=` and the 32 hex digits of sixteen octets.
+#[tactic(auto, unfolding(crate::specs::Lines::hex_secret, octets::specs::Choice::pick))]
+fn hex_secret(s: &[u8]) -> Result<[u8; 16], LineError>
     ensures { result ≡ hex_secret s.now }
 {
     if s.len() != 37 {
-        return Secret {
-            line: Line::BadHash,
-            hash: [0u8; 16],
-        };
+        return Err(LineError::BadHash);
     }
     if !octets::hex_stands(true, s, 5, 32) {
-        return Secret {
-            line: Line::BadHash,
-            hash: [0u8; 16],
-        };
+        return Err(LineError::BadHash);
     }
-    let hash = hash_in(s);
-    Secret {
-        line: Line::Account,
-        hash,
-    }
+    Ok(octets::from_hex(octets::rest(s, 5)))
 }
 
-fn spelt_as(spelling: Spelling, hash: [u8; 16]) -> Secret
-    ensures { result ≡ spelt spelling hash }
-{
-    match spelling {
-        Spelling::Good => Secret {
-            line: Line::Account,
-            hash,
-        },
-        Spelling::NotUtf8 => Secret {
-            line: Line::NotUtf8,
-            hash,
-        },
-        Spelling::TooLong => Secret {
-            line: Line::LongPassword,
-            hash,
-        },
-    }
-}
-
-// `hash=` and 32 hex digits, or a password.
-pub fn secret_of(s: &[u8]) -> Secret
+// The hash that `hash=` and 32 hex digits give, or that of a password.
+#[tactic(auto, unfolding(crate::specs::Lines::secret_of, octets::specs::Choice::pick))]
+pub fn secret_of(s: &[u8]) -> Result<[u8; 16], LineError>
     ensures { result ≡ secret_of s.now }
 {
     if octets::stands_at(s, 0, b"hash=") {
         return hex_secret(s);
     }
-    let h = password::hash(s);
-    let spelling = h.spelling;
-    let hash = h.hash;
-    spelt_as(spelling, hash)
+    Ok(password::hash(s)?)
 }
 
-// The code's number; 1 for any other field.
-fn code_in(s: &[u8]) -> u16
+// The code's number. By `equal`: in a match on byte strings nothing is known of a text that is none of them.
+#[tactic(auto, unfolding(crate::specs::Lines::code_in, octets::specs::Choice::pick))]
+fn code_in(s: &[u8]) -> Option<u16>
     ensures { result ≡ code_in s.now }
 {
     if octets::equal(s, b"0") {
-        return 0;
+        return Some(0);
     }
     if octets::equal(s, b"646") {
-        return 646;
+        return Some(646);
     }
     if octets::equal(s, b"647") {
-        return 647;
+        return Some(647);
     }
     if octets::equal(s, b"648") {
-        return 648;
+        return Some(648);
     }
     if octets::equal(s, b"649") {
-        return 649;
+        return Some(649);
     }
-    1
+    None
 }
 
-fn code_after(rest: &[u8]) -> u16
+// The code after the password: 0 where nothing is said of it.
+#[tactic(auto, using(crate::proofs::Fields::codes))]
+fn code_after(rest: &[u8]) -> Option<u16>
     ensures { result ≡ code_after rest.now }
 {
-    if !has_octet(rest, 9) {
-        return 0;
+    match place(rest, 9) {
+        Some(n) => code_in(&rest[n + 1..]),
+        None => Some(0),
     }
-    code_in(field_after(rest, 9))
 }
 
 // ---- a line
 
-fn no_entry(line: Line) -> Entry
-    ensures { result ≡ no_entry line }
-{
-    Entry {
-        line,
-        code: 0,
-        hash: [0u8; 16],
-        namelen: 0,
-    }
-}
-
 // A line with a name of n octets.
-fn entry_with(s: &[u8], n: usize) -> Entry
+#[tactic(auto, unfolding(crate::specs::Lines::entry_with))]
+fn entry_with(s: &[u8], n: usize) -> Result<Entry, LineError>
     ensures { result ≡ entry_with s.now n }
 {
     let rest = field_after(s, 9);
-    let code = code_after(rest);
-    if !accounts::is_code(code as u64) {
-        return no_entry(Line::BadCode);
-    }
-    let made = secret_of(field_before(rest, 9));
-    let line = made.line;
-    let hash = made.hash;
-    Entry {
-        line,
+    let code = code_after(rest).ok_or(LineError::BadCode)?;
+    let hash = secret_of(field_before(rest, 9))?;
+    Ok(Entry {
         code,
         hash,
         namelen: n,
-    }
+    })
 }
 
-// What a line says.
-pub fn entry_of(s: &[u8]) -> Entry
+// The account of a line, or none where it is passed over.
+#[tactic(auto, using(crate::proofs::Fields::entries))]
+pub fn entry_of(s: &[u8]) -> Result<Option<Entry>, LineError>
     ensures { result ≡ entry_of s.now }
 {
     if s.len() == 0 {
-        return no_entry(Line::Blank);
+        return Ok(None);
     }
     if octets::octet_is(s, 0, b'#') {
-        return no_entry(Line::Blank);
+        return Ok(None);
     }
-    if !has_octet(s, 9) {
-        return no_entry(Line::NoPassword);
-    }
-    let n = place(s, 9);
+    let Some(n) = place(s, 9) else {
+        return Err(LineError::NoPassword);
+    };
     if n == 0 {
-        return no_entry(Line::NoName);
+        return Err(LineError::NoName);
     }
     if 256 < n {
-        return no_entry(Line::LongName);
+        return Err(LineError::LongName);
     }
-    entry_with(s, n)
-}
-
-// Whether a line is an account.
-pub fn is_account(line: Line) -> bool
-    ensures { result ≡ is_account line }
-{
-    match line {
-        Line::Blank => false,
-        Line::Account => true,
-        Line::NoPassword => false,
-        Line::NoName => false,
-        Line::LongName => false,
-        Line::BadCode => false,
-        Line::BadHash => false,
-        Line::NotUtf8 => false,
-        Line::LongPassword => false,
-        Line::Full => false,
-    }
-}
-
-// Whether a line is wrong.
-pub fn is_fault(line: Line) -> bool
-    ensures { result ≡ is_fault line }
-{
-    match line {
-        Line::Blank => false,
-        Line::Account => false,
-        Line::NoPassword => true,
-        Line::NoName => true,
-        Line::LongName => true,
-        Line::BadCode => true,
-        Line::BadHash => true,
-        Line::NotUtf8 => true,
-        Line::LongPassword => true,
-        Line::Full => true,
-    }
+    let entry = entry_with(s, n)?;
+    Ok(Some(entry))
 }
 
 // ---- a table
 
-// A line's record at the end of a table of n octets.
-fn take_line(table: &mut [u8], n: usize, s: &[u8]) -> AfterLine
+// A line's record at the end of a table of n octets: how long the table is after it. Where it is wrong the table stays as it is.
+#[tactic(auto, using(crate::proofs::Makes::takes))]
+fn take_line(table: &mut [u8], n: usize, s: &[u8]) -> Result<usize, LineError>
     requires { n ≤ length table.old }
-    ensures { Makes (added_line (length table.old) (take n table.old) s.now) result.line result.len table.old table.new }
+    ensures { Takes (added_line (length table.old) (take n table.old) s.now) result n table.old table.new }
 {
-    let e = entry_of(s);
-    let line = e.line;
-    if !is_account(line) {
-        return AfterLine { line, len: n };
-    }
-    let hash = e.hash;
-    let name = octets::part(s, 0, e.namelen);
-    let next = accounts::append_account(table, n, e.code as u64, hash, name);
-    if next == n {
-        return AfterLine {
-            line: Line::Full,
-            len: next,
-        };
-    }
-    AfterLine { line, len: next }
+    let Some(entry) = entry_of(s)? else {
+        return Ok(n);
+    };
+    let name = octets::part(s, 0, entry.namelen);
+    accounts::append_account(table, n, entry.code as u64, entry.hash, name).ok_or(LineError::Full)
 }
 
 // The table that a text's lines make, at the front of a buffer of at most 65,536 octets.
+#[tactic(auto, using(crate::proofs::Makes::makes))]
 pub fn make(table: &mut [u8], text: &[u8]) -> Made
     ensures { MadeBy text.now table.old table.new result.ended result.len result.lines }
 {
     if 65536 < table.len() {
         return Made {
-            ended: Line::Full,
+            ended: Err(LineError::Full),
             lines: 0,
             len: 0,
         };
     }
     let mut lines = 0;
     let mut len = 0;
-    let mut at = 0;
-    while at < text.len() {
-        let s = field_before(octets::rest(text, at), 10);
-        let taken = take_line(table, len, trim(s));
-        let line = taken.line;
+    let mut left = text;
+    // no `split`: after the last newline it has one line more, an empty one, and lines are counted
+    while 0 < left.len() {
         lines += 1;
-        len = taken.len;
-        if is_fault(line) {
-            return Made {
-                ended: line,
-                lines,
-                len,
-            };
+        match take_line(table, len, trim(field_before(left, 10))) {
+            Ok(next) => len = next,
+            Err(why) => {
+                return Made {
+                    ended: Err(why),
+                    lines,
+                    len,
+                };
+            }
         }
-        at = at + s.len() + 1;
+        left = field_after(left, 10);
     }
     Made {
-        ended: Line::Blank,
+        ended: Ok(()),
         lines,
         len,
     }

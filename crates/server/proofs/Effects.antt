@@ -1,10 +1,12 @@
 -- Every call does what specs/Effects says, and nothing else.
-use Rattle.std.proofs.Common.{◌≡◌, ℕ, ◌≤◌, Bool, true, false, not, eqb, ltb, List, length, sym, refl, ap, ◌∙◌, arith, ltb-false, ltb-true, le-ltb, eq-eqb, ne_eqb, eqb-true}
+use Rattle.std.proofs.Common.{◌≡◌, ℕ, ◌≤◌, true, not, eqb, ltb, List, length, sym, refl, ap, ◌∙◌, arith, ltb-false, ltb-true, le-ltb, eq-eqb, ne_eqb, eqb-true, Result, Ok}
 use borrow.Author.Tests.{eqb-false}
+use Rattle.std.proofs.lemmas.Bool.{false_from_ne_true}
 use Rattle.octets.specs.Octets.{same}
 use Rattle.octets.proofs.Exits.{pick_true, pick_false, picked, clash, tested, passed}
 use Rattle.octets.proofs.Scans.{same_refl, same_true}
 use Rattle.answer.specs.Outcome.{Outcome, refused, fitting}
+use Rattle.answer.specs.declared.Refusal.{Refusal}
 use Rattle.answer.specs.Sizes.{max_name, max_retries}
 use Rattle.answer.proofs.Outcomes.{fitting_so, fitting_not}
 use Rattle.packet.specs.declared.Packet.{Packet}
@@ -51,17 +53,13 @@ module _ (name : List ℕ) (retries : ℕ) where
       let n : length name ≡ 0 → ⊥ = λ z. omega (arith, f.some) in
       pick_false _ _ _ (ne_eqb _ _ n) ∙ pick_false _ _ _ (le-ltb _ _ f.few) ∙ pick_false _ _ _ (le-ltb _ _ f.count)
 
--- a test that does not hold
-failed : (b : Bool) → (b ≡ true → ⊥) → b ≡ false
-failed b f = tested b (λ e. absurd (f e)) (λ e. e)
-
 module _ (s : Server) where
   -- ---- what each case comes to
   pub verdict_so : {packet table : List ℕ} {v : Verdict} (x : Verdicts s packet table v) → verdict_of s x.response packet table ≡ v
   unfolding verdict_of judge_of
   verdict_so x = sym (judged-as _ _ _ _ _ x.is)
 
-  due_so : {v : Verdict} {f : Failure} → Denies s v f → due_of v.mark v.code s ≡ due.Failure f
+  due_so : {v : Verdict} {f : Failure} → Denies s v f → due_of v s ≡ Ok (due.Failure f)
   unfolding due_of
   due_so (barred code string n) = pick_false _ _ _ (ne_eqb code 0 n)
   due_so (again n) = pick_false _ _ _ (ne_eqb s.retries 0 n)
@@ -75,13 +73,13 @@ module _ (s : Server) where
 
     denied_so : (v : Verdict) (f : Failure) → Verdicts s packet table v → Denies s v f → packet_of s packet table fresh room ≡ fail_of f s fresh room
     unfolding judged_by act_of
-    denied_so v f x d = judged_so v x ∙ ap (λ (u : Due). act_of u s v.string fresh room) (due_so d)
+    denied_so v f x d = judged_so v x ∙ ap (λ (u : Result Due Refusal). act_of u s fresh room) (due_so d)
 
   refuses_so : {c : Call (List ℕ)} {k : ℕ} → Refuses s c k → outcome_of s c ≡ refused k s
   unfolding start_of resend_of judged_by due_of act_of fail_of
-  refuses_so (begun n) = pick_true _ _ _ (ap not (failed (begins s.stage) (λ e. n (begins_so s.stage e))))
+  refuses_so (begun n) = pick_true _ _ _ (ap not (false_from_ne_true (begins s.stage) (λ e. n (begins_so s.stage e))))
   refuses_so (misfit {name = name} {retries = retries} b n) =
-      pick_false _ _ _ (ap (λ (g : Stage). not (begins g)) b) ∙ pick_true _ _ _ (ap not (failed (start_fits (length name) retries) (λ e. n (fits_so name retries e))))
+      pick_false _ _ _ (ap (λ (g : Stage). not (begins g)) b) ∙ pick_true _ _ _ (ap not (false_from_ne_true (start_fits (length name) retries) (λ e. n (fits_so name retries e))))
   refuses_so (unread {packet} {table} {fresh} {reply} k h e) = packet_unread s packet table fresh (length reply) k h e
   refuses_so (untaken {packet} {table} {fresh} {reply} x e t) = packet_untaken s packet table fresh (length reply) x e t
   refuses_so (misnumbering {packet} {table} {fresh} {reply} x e t m) = packet_unnumbered s packet table fresh (length reply) x e t m
@@ -94,9 +92,9 @@ module _ (s : Server) where
   unfolding start_of resend_of taken_by judged_by due_of act_of fail_of
   moves_so (starting {name = name} {retries = retries} b f) =
       pick_false _ _ _ (ap (λ (g : Stage). not (begins g)) b) ∙ pick_false _ _ _ (ap not (so_fits name retries f))
-  moves_so (granting {fresh = fresh} {reply = reply} string v) = judged_so fresh (length reply) (right 0 string) v ∙ ap (λ (d : Due). act_of d s string fresh (length reply)) (pick_true _ _ _ refl)
+  moves_so (granting {fresh = fresh} {reply = reply} string v) = judged_so fresh (length reply) (right 0 string) v ∙ ap (λ (d : Result Due Refusal). act_of d s fresh (length reply)) (pick_true _ _ _ refl)
   moves_so (denying {fresh = fresh} {reply = reply} v f x d n) =
-      denied_so fresh (length reply) v f x d ∙ pick_false _ _ _ (failed (same fresh s.request.challenge) (λ e. n (same_true _ _ e)))
+      denied_so fresh (length reply) v f x d ∙ pick_false _ _ _ (false_from_ne_true (same fresh s.request.challenge) (λ e. n (same_true _ _ e)))
   moves_so (confirming {packet} {table} {fresh} {reply} x t) = taken_by_lem s packet table fresh (length reply) x SuccessRequestSent t
   moves_so (ending {packet} {table} {fresh} {reply} x t) = taken_by_lem s packet table fresh (length reply) x FailureRequestSent t
   moves_so (resending e) = pick_false _ _ _ (ap not e)

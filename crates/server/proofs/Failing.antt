@@ -1,7 +1,8 @@
 -- The server reaches FAILED after the retries and a Failure Response.
-use Rattle.std.proofs.Common.{◌≡◌, ◌+◌, [], ◌∷◌, length, sym, refl, ap, ◌∙◌, arith, eq-eqb, ne_eqb}
+use Rattle.std.proofs.Common.{◌≡◌, ◌+◌, [], ◌∷◌, length, sym, refl, ap, ◌∙◌, arith, eq-eqb, ne_eqb, Result, Ok}
 use Rattle.octets.proofs.Exits.{pick_true, pick_false}
 use Rattle.answer.specs.Outcome.{Outcome}
+use Rattle.answer.specs.declared.Refusal.{Refusal}
 use Rattle.answer.specs.Runs.{after}
 use Rattle.packet.specs.Forms.{failure_response}
 use Rattle.packet.proofs.Back.{failure_response_back}
@@ -22,13 +23,13 @@ use Rattle.server.proofs.Forward.{starts_so, ends_so, fail_so, taken_by_lem, end
 
 module _ (s : Server) (g : Try) (w : WrongTry s g) where
   -- the Failure Request f is due
-  tried : (f : Failure) → due_of wrong.mark wrong.code s ≡ due.Failure f → f.error ≡ authentication_failure → left (server_step s (call_of g)) ≡ (failing s f g.fresh).state
+  tried : (f : Failure) → due_of wrong s ≡ Ok (due.Failure f) → f.error ≡ authentication_failure → left (server_step s (call_of g)) ≡ (failing s f g.fresh).state
   unfolding server_step taken_by judged_by act_of
   tried f e n =
       ap (λ (o : Outcome Server). o.state)
       (taken_by_lem s g.packet g.table g.fresh (length g.reply) w.response ChallengeSent w.taken
       ∙ ap (λ (v : Verdict). judged_by v s g.fresh (length g.reply)) (verdict_wrong s g.packet g.table g.fresh g.reply w.response w.taken w.unright)
-      ∙ ap (λ (d : Due). act_of d s wrong.string g.fresh (length g.reply)) e
+      ∙ ap (λ (d : Result Due Refusal). act_of d s g.fresh (length g.reply)) e
       ∙ fail_so f s g.fresh (length g.reply) w.differs (omega arith) (omega arith) w.room)
 
   -- no retries are left

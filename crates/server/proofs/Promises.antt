@@ -110,9 +110,9 @@ stored_after s c z = by_moves (λ (o : Outcome Server). stored_request o.state �
     quiet (resends reply) k l = refl
 
     go : {c : Call (List ℕ)} {o : Outcome Server} → Moves s c o → Lent c → stored_request o.state ≡ request_after c o (stored_request s)
-    go (starting {id} {challenge} {name} b f) z = stored_asked _ _ _ _ _ _ (challenge_fits id.0 (chap_of id).0 challenge name z (f.some, f.few)).1
-    go (granting t v) z = stored_asked _ _ _ _ _ _ (success_fits _ _ t).1
-    go (denying v f x d n) z = stored_asked _ _ _ _ _ _ (failure_fits _ _ _ _ _).1
+    go (starting {id} {challenge} {name} b f) z = stored_asked _ _ _ _ _ _ (challenge_fits id challenge name z f.few)
+    go (granting t v) z = stored_asked _ _ _ _ _ _ (success_fits _ t)
+    go (denying v f x d n) z = stored_asked _ _ _ _ _ _ (failure_fits _ _ _ _)
     go (confirming x t) z = refl
     go (ending x t) z = refl
     go (resending e) z = refl
@@ -155,9 +155,9 @@ room_enough s c i z r = go (effect s c)
     stored_few = omega (arith, length_stored s, i.request)
 
     few : {c : Call (List ℕ)} {o : Outcome Server} → Moves s c o → Lent c → length o.octets ≤ request_room
-    few (starting {id} {challenge} {name} b f) z = (challenge_fits id.0 (chap_of id).0 challenge name z (f.some, f.few)).1
-    few (granting t v) z = (success_fits _ _ t).1
-    few (denying v f x d n) z = (failure_fits _ _ _ _ _).1
+    few (starting {id} {challenge} {name} b f) z = (challenge_fits id challenge name z f.few)
+    few (granting t v) z = (success_fits _ t)
+    few (denying v f x d n) z = (failure_fits _ _ _ _)
     few (confirming x t) z = omega arith
     few (ending x t) z = omega arith
     few (resending e) z = stored_few

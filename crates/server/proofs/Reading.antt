@@ -37,7 +37,7 @@ use Rattle.server.proofs.Effects.{verdict_so, by_moves}
 use Rattle.server.proofs.Promises.{resends_stored, stored_asked}
 
 -- ---- what a right verdict hands on: a string of octets, and a code that is 0 or has three digits
-coded : (c : ℕ) → is_code c ≡ true → (c ≡ 0 → ⊥) → (100 ≤ c) × (c ≤ 999)
+pub coded : (c : ℕ) → is_code c ≡ true → (c ≡ 0 → ⊥) → (100 ≤ c) × (c ≤ 999)
 unfolding is_code
 coded c e z =
     tested (eqb c 0) (λ a. absurd (z (eqb-true _ _ a)))
@@ -53,11 +53,11 @@ coded c e z =
 module _ {s : Server} {packet table : List ℕ} {code : ℕ} {string : List ℕ} (v : Verdicts s packet table (right code string)) where
   string_octets : AreOctets string
   unfolding verdict_of judge_of
-  string_octets k = rw (verdict_so _ v) at (right_string _ _ _ _ _ (ap (λ (u : Verdict). u.mark) (verdict_so _ v)) k)
+  string_octets k = right_string _ _ _ _ _ code string (verdict_so _ v) k
 
   code_three : (code ≡ 0 → ⊥) → (100 ≤ code) × (code ≤ 999)
   unfolding verdict_of judge_of
-  code_three z = coded code (rw (verdict_so _ v) at (right_code _ _ _ _ _ (ap (λ (u : Verdict). u.mark) (verdict_so _ v)))) z
+  code_three z = coded code (right_code _ _ _ _ _ code string (verdict_so _ v)) z
 
 -- a Failure Request's code has three digits
 denied_three : {s : Server} {packet table : List ℕ} {v : Verdict} {f : Failure} → Verdicts s packet table v → Denies s v f → (100 ≤ f.error) × (f.error ≤ 999)
@@ -83,7 +83,7 @@ unfolding chap_of
 failure_meant id f fresh c o =
     let e : length (decimal f.error) ≡ 3 = length_decimal_3 f.error c.0 c.1 in
     reads_so
-    (rw e at (failure_request_back id.0 id.0 f.error (retry_digit f.retry) fresh [] (omega (arith, c.1)) (digit_few f.retry _ refl) o (rw e (omega arith))))
+    (rw e at (failure_request_back id.0 id.0 f.error (retry_digit f.retry) fresh [] (omega (arith, c.1)) (digit_few f.retry) o (rw e (omega arith))))
     (length_failure_request_60 _ _ f.error (retry_digit f.retry) fresh c.0 c.1)
 
 -- what each move writes
@@ -131,10 +131,10 @@ module _ (s : Server) (before : sent s.stage ≡ true → Outstanding s) where
   unfolding staged
   outstanding_after (starting {id} {challenge} {name} b f) z g =
       let n : (1 ≤ length name) × (length name ≤ max_name) = (f.some, f.few) in
-      outstanding_asked _ _ _ _ _ s (challenge_meant id challenge name z n) (challenge_fits _ _ challenge name z n).1 (inl refl) refl refl
-  outstanding_after (granting string v) z g = outstanding_asked _ _ _ _ _ s (success_meant _ string (string_octets v)) (success_fits _ _ string).1 refl refl refl
+      outstanding_asked _ _ _ _ _ s (challenge_meant id challenge name z n) (challenge_fits id challenge name z f.few) (inl refl) refl refl
+  outstanding_after (granting string v) z g = outstanding_asked _ _ _ _ _ s (success_meant _ string (string_octets v)) (success_fits _ string) refl refl refl
   outstanding_after (denying {fresh = fresh} v f x d n) z g =
-      outstanding_asked _ _ _ _ _ s (failure_meant _ f fresh (denied_three x d) z.1) (failure_fits _ _ f.error (retry_digit f.retry) fresh).1 (denied_waits x.taken.stage d) refl refl
+      outstanding_asked _ _ _ _ _ s (failure_meant _ f fresh (denied_three x d) z.1) (failure_fits _ f.error (retry_digit f.retry) fresh) (denied_waits x.taken.stage d) refl refl
   outstanding_after (confirming x t) z g = clash refl g
   outstanding_after (ending x t) z g = clash refl g
   outstanding_after (resending e) z g = before g

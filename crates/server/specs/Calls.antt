@@ -1,5 +1,5 @@
 -- 01, "What a call answers" and "The server's moves": what each call of the server does. s is the state before it, room the length of the reply buffer.
-use Rattle.std.specs.Prelude.{ℕ, ◌-◌, Bool, true, false, not, List, length, drop, ◌==◌, nat_lt}
+use Rattle.std.specs.Prelude.{ℕ, ◌-◌, Bool, true, false, not, List, length, drop, ◌==◌, nat_lt, Result, Ok, Err}
 use Rattle.octets.specs.Choice.{pick}
 use Rattle.octets.specs.Lists.{part, sized}
 use Rattle.octets.specs.Octets.{same}
@@ -7,12 +7,12 @@ use Rattle.answer.specs.Answer.{refusal_of}
 use Rattle.answer.specs.Outcome.{Outcome, outcome, refused, fitting}
 use Rattle.answer.specs.Sizes.{max_name, max_retries}
 use Rattle.answer.specs.declared.Identifier.{Identifier}
+use Rattle.answer.specs.declared.Refusal.{Refusal}
 use Rattle.answer.specs.declared.Refusal.TheVariants.{BadTable}
 use Rattle.packet.specs.declared.Packet.{Packet}
 use Rattle.packet.specs.Forms.{eap_success, eap_failure}
-use Rattle.verdict.specs.declared.Mark.{Mark}
-use Rattle.verdict.specs.declared.Mark.TheVariants.{Malformed, Wrong, Right}
 use Rattle.verdict.specs.declared.Verdict.{Verdict}
+use Rattle.verdict.specs.declared.Verdict.TheVariants.{Malformed, Wrong, Right}
 use Rattle.verdict.specs.Verdict.{judge_of}
 use Rattle.packet.specs.Reader.{challenge_in}
 use Rattle.server.specs.declared.Due.{Due}
@@ -71,20 +71,20 @@ final s error = record { stage = FailureRequestSent; retries = s.retries; error 
 
 -- "Right and code 0: Success Request, SUCCESS_REQUEST_SENT. Right and code not 0: Failure Request with that code, R=0, FAILURE_REQUEST_SENT.
 -- Wrong, or no such account: E=691; with retries left R=1, one retry fewer, stage kept; else R=0, FAILURE_REQUEST_SENT."
-unfoldable pub due_of : Mark → ℕ → Server → Due
-due_of Malformed code s = due.Refused BadTable
-due_of Right code s = pick (code == 0) due.Success (due.Failure (final s code))
-due_of Wrong code s = pick (s.retries == 0) (due.Failure (final s authentication_failure)) (due.Failure (retryable s))
+unfoldable pub due_of : Verdict → Server → Result Due Refusal
+due_of Malformed s = Err BadTable
+due_of (Right code string) s = pick (code == 0) (Ok (due.Success string)) (Ok (due.Failure (final s code)))
+due_of Wrong s = pick (s.retries == 0) (Ok (due.Failure (final s authentication_failure))) (Ok (due.Failure (retryable s)))
 
 -- 22: "fresh challenge equals the outstanding one, and a Failure Request is due"; then 20
 unfoldable pub fail_of : Failure → Server → List ℕ → ℕ → Outcome Server
 fail_of f s fresh room = pick (same fresh s.request.challenge) (refused 22 s) (fitting room s (failing s f fresh))
 
 -- what is due, done
-unfoldable pub act_of : Due → Server → List ℕ → List ℕ → ℕ → Outcome Server
-act_of (due.Refused why) s string fresh room = refused (refusal_of why) s
-act_of due.Success s string fresh room = fitting room s (succeeding s string)
-act_of (due.Failure f) s string fresh room = fail_of f s fresh room
+unfoldable pub act_of : Result Due Refusal → Server → List ℕ → ℕ → Outcome Server
+act_of (Err why) s fresh room = refused (refusal_of why) s
+act_of (Ok (due.Success string)) s fresh room = fitting room s (succeeding s string)
+act_of (Ok (due.Failure f)) s fresh room = fail_of f s fresh room
 
 -- ---- the verdict on a Response p, of which k was read: the octets at k's places
 unfoldable pub nt_response_of : Packet → List ℕ → List ℕ
@@ -98,7 +98,7 @@ verdict_of s k p table = judge_of s.request.challenge (challenge_in k p) (nt_res
 
 -- 21, 22, 20 and the move
 unfoldable pub judged_by : Verdict → Server → List ℕ → ℕ → Outcome Server
-judged_by v s fresh room = act_of (due_of v.mark v.code s) s v.string fresh room
+judged_by v s fresh room = act_of (due_of v s) s fresh room
 
 -- ---- the packet: 10 to 19 by the turn, and then by the stage, since it takes one kind alone
 unfoldable pub taken_by : Stage → Packet → Server → List ℕ → List ℕ → List ℕ → ℕ → Outcome Server

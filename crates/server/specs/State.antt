@@ -5,6 +5,7 @@ use Rattle.answer.specs.Sizes.{max_name}
 use Rattle.answer.specs.declared.Identifier.{Identifier}
 use Rattle.answer.specs.declared.ChapId.{ChapId}
 use Rattle.packet.specs.Forms.{challenge_name_at, challenge_packet, success_request, failure_request}
+use Rattle.writers.specs.declared.Ids.{Ids}
 use Rattle.server.specs.declared.Stage.{Stage}
 use Rattle.server.specs.declared.Stage.TheVariants.{Begin}
 use Rattle.server.specs.declared.Request.{Request}
@@ -26,6 +27,10 @@ next_id i = record { 0 = (i.0 + 1) % 256 }
 -- the MS-CHAPv2-ID beside an Identifier. 01, "Packet forms": "The server writes them equal"
 unfoldable pub chap_of : Identifier → ChapId
 chap_of i = record { 0 = i.0 }
+
+-- both
+abbrev pub ids_of : Identifier → Ids
+ids_of i = record { id = i; chapid = chap_of i }
 
 abbrev pub challenge_to : Identifier → List ℕ → List ℕ → List ℕ
 challenge_to id challenge name = challenge_packet id.0 (chap_of id).0 challenge name

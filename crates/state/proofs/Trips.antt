@@ -3,7 +3,8 @@ use Prim.Native.Nat.{ℕ, suc, ◌+◌, ◌-◌, ◌*◌, ◌/◌, ◌%◌, ◌�
 use native.Mathlib.Omega.{arith}
 use mathlib.Core.Path.{◌≡◌, refl, sym, ap, ◌∙◌}
 use mathlib.Core.List.{List, ◌∷◌, flatten}
-use lib.ListN.{length, drop, length-append}
+use lib.ListN.{length, get_or, drop, length-append}
+use Rattle.std.specs.Int.{w16, from_le_bytes}
 use lib.Seq.{drop_at, drop-drop, get_or-drop}
 use Rattle.octets.specs.Lists.{sized}
 use Rattle.octets.specs.Octets.{pair_of, number_at}
@@ -92,6 +93,15 @@ same_peer p q a b c d e f g h j k l m = λ i. record { stage = a i; credentials 
 
 pub stage_read : (n m : ℕ) (x : PeerStage) → n ≡ m → x ≡ peer_stage_of n → x ≡ peer_stage_of m
 stage_read n m x e f = cc
+
+-- a length is its two octets, the low one first
+pub length_read : (s octets : List ℕ) (at n : ℕ) → octets ≡ sized 2 (drop at s) → n ≡ from_le_bytes w16 octets → n ≡ number_at Little s at
+unfolding number_at
+length_read s octets at n e f =
+    let low : get_or octets 0 0 ≡ get_or s (at + 0) 0 = rw e (get_or_sized 2 (drop at s) 0 (omega arith) ∙ get_or-drop at s 0 0) in
+    let high : get_or octets 1 0 ≡ get_or s (at + 1) 0 = rw e (get_or_sized 2 (drop at s) 1 (omega arith) ∙ get_or-drop at s 1 0) in
+    let none : at + 0 ≡ at = omega arith in
+    f ∙ rw (low, high, none) (omega arith)
 
 -- octets past a peer's size stand for nothing, and those that are missing for zeros
 field_sized : (n : ℕ) (s : List ℕ) (at m : ℕ) → at + m ≤ n → sized m (drop at (sized n s)) ≡ sized m (drop at s)

@@ -5,33 +5,41 @@
 //   0 stage, 1 Identifier, 2 MS-CHAPv2-ID, 3 retries, 4 request length, 6 challenge, 22 request.
 #![tactic(auto)]
 
-ghost use Rattle.std.specs.Prelude.{◌≡◌, length, drop};
-ghost use Rattle.octets.specs.Lists.{sized};
+ghost use Rattle.std.specs.Prelude.{ℕ, ◌≡◌, List};
 ghost use Rattle.octets.specs.Octets.{number_at};
 ghost use Rattle.octets.specs.declared.Order.TheVariants.{Little};
 ghost use Rattle.state.specs.Stored.{stored};
-ghost use Rattle.state.specs.PeerOctets.{peer_octets, peer_stage_of, peer_stage_number, peer_of, peer_numbers, octets_of_peer};
-ghost use Rattle.state.specs.ServerOctets.{server_octets, server_stage_of, server_stage_number, server_of, server_numbers, octets_of_server};
+ghost use Rattle.state.specs.PeerOctets.{peer_octets, peer_stage_of, peer_of, peer_numbers, octets_of_peer};
+ghost use Rattle.state.specs.ServerOctets.{server_octets, server_stage_of, server_of, server_numbers, octets_of_server};
 
 use answer::{ChapId, Identifier};
 use peer::{Challenges, Credentials, Peer};
 use server::Server;
 
-// ---- fields
-// Fills dst with the octets of s from `at`, and zeros after them.
-fn field(dst: &mut [u8], s: &[u8], at: usize)
-    ensures { dst.new ≡ sized (length dst.old) (drop at s.now) }
-{
-    octets::fill(dst, octets::rest(s, at));
+// An end whose state is stored in octets of one size: include/zirgumtak.h has the sizes and the places.
+pub trait Stored: Copy {
+    ghost OCTETS: { ℕ };
+
+    ghost octets_of: { Self → List ℕ };
+
+    ghost of_octets: { List ℕ → Self };
+
+    const OCTETS: usize;
+
+    // The state that octets stand for.
+    fn decode(octets: &[u8]) -> Self
+        ensures { result ≡ of_octets octets.now };
+
+    // Writes the state's octets, where there is room for just these.
+    fn encode(self, octets: &mut [u8])
+        ensures { octets.new ≡ stored OCTETS (octets_of self) octets.old };
 }
 
 // The length in the two octets at `at`.
-fn length_at(s: &[u8], at: u8) -> u16
+fn length_at(s: &[u8], at: usize) -> u16
     ensures { result ≡ number_at Little s.now at }
 {
-    let low = octets::octet(s, at as usize);
-    let high = octets::octet(s, at as usize + 1);
-    (low as u16) + (high as u16) * 256
+    u16::from_le_bytes(octets::array_at(s, at))
 }
 
 // ---- the peer
@@ -49,8 +57,10 @@ const REPLY_AT: usize = PEER_REQUEST_AT + Peer::MAX_PACKET;
 
 const EXPECTED_AT: usize = REPLY_AT + Peer::REPLY_ROOM;
 
-pub const PEER_OCTETS: usize = EXPECTED_AT + 20;
+const PEER_OCTETS: usize = EXPECTED_AT + 20;
 
+// No `From<u8>`: the stages are other crates' enums, and these numbers belong to the layout above. In order, they are 0 to 6.
+#[tactic(auto, using(crate::proofs::Trips::peer_other), unfolding(crate::specs::PeerOctets::peer_stage_of))]
 fn peer_stage_of(n: u8) -> peer::Stage
     ensures { result ≡ peer_stage_of n }
 {
@@ -65,106 +75,77 @@ fn peer_stage_of(n: u8) -> peer::Stage
     }
 }
 
-fn peer_stage_number(stage: peer::Stage) -> u8
-    ensures { result ≡ peer_stage_number stage }
-{
-    match stage {
-        peer::Stage::Begin => 0,
-        peer::Stage::ChallengeResponseSent => 1,
-        peer::Stage::SuccessResponseSent => 2,
-        peer::Stage::FailureResponseSent => 3,
-        peer::Stage::Waiting => 4,
-        peer::Stage::Success => 5,
-        peer::Stage::Failed => 6,
-    }
-}
-
 // The peer in octets of its size.
 fn peer_in(state: &[u8]) -> Peer
     ensures { result ≡ peer_of state.now }
 {
-    let mut hash = [0u8; 16];
-    field(&mut hash, state, HASH_AT);
-    let mut authenticator = [0u8; 16];
-    field(&mut authenticator, state, AUTHENTICATOR_AT);
-    let mut own = [0u8; 16];
-    field(&mut own, state, OWN_AT);
-    let mut name = [0u8; Peer::MAX_NAME];
-    field(&mut name, state, NAME_AT);
-    let mut request = [0u8; Peer::MAX_PACKET];
-    field(&mut request, state, PEER_REQUEST_AT);
-    let mut reply = [0u8; Peer::REPLY_ROOM];
-    field(&mut reply, state, REPLY_AT);
-    let mut expected = [0u8; 20];
-    field(&mut expected, state, EXPECTED_AT);
-    let stage = peer_stage_of(octets::octet(state, 0));
-    let chapid = octets::octet(state, 1);
-    let namelen = length_at(state, 2);
-    let requestlen = length_at(state, 4);
-    let replylen = length_at(state, 6);
     Peer {
-        stage,
+        stage: peer_stage_of(octets::octet(state, 0)),
         credentials: Credentials {
-            name,
-            namelen,
-            hash,
+            name: octets::array_at(state, NAME_AT),
+            namelen: length_at(state, 2),
+            hash: octets::array_at(state, HASH_AT),
         },
         challenges: Challenges {
-            authenticator,
-            own,
-            chapid: ChapId(chapid),
-            expected,
+            authenticator: octets::array_at(state, AUTHENTICATOR_AT),
+            own: octets::array_at(state, OWN_AT),
+            chapid: ChapId(octets::octet(state, 1)),
+            expected: octets::array_at(state, EXPECTED_AT),
         },
-        request,
-        requestlen,
-        reply,
-        replylen,
+        request: octets::array_at(state, PEER_REQUEST_AT),
+        requestlen: length_at(state, 4),
+        reply: octets::array_at(state, REPLY_AT),
+        replylen: length_at(state, 6),
     }
-}
-
-// The peer that octets stand for. In an array each field's size and place are known, and the compiler copies it at once, from the
-// caller's octets: neither the array nor the arrays of peer_in take stack.
-pub fn decode_peer(state: &[u8]) -> Peer
-    ensures { result ≡ peer_of state.now }
-{
-    let mut whole = [0u8; PEER_OCTETS];
-    octets::fill(&mut whole, state);
-    peer_in(&whole)
 }
 
 fn peer_numbers(p: Peer) -> [u8; 8]
     ensures { result ≡ peer_numbers p }
 {
-    let stage = p.stage;
-    let chapid = p.challenges.chapid;
+    let [name_low, name_high] = p.credentials.namelen.to_le_bytes();
+    let [request_low, request_high] = p.requestlen.to_le_bytes();
+    let [reply_low, reply_high] = p.replylen.to_le_bytes();
     [
-        peer_stage_number(stage),
-        chapid.0,
-        (p.credentials.namelen % 256) as u8,
-        (p.credentials.namelen / 256) as u8,
-        (p.requestlen % 256) as u8,
-        (p.requestlen / 256) as u8,
-        (p.replylen % 256) as u8,
-        (p.replylen / 256) as u8,
+        p.stage as u8,
+        p.challenges.chapid.0,
+        name_low,
+        name_high,
+        request_low,
+        request_high,
+        reply_low,
+        reply_high,
     ]
 }
 
-// Writes a peer's octets, where there is room for just these.
-pub fn encode_peer(p: Peer, state: &mut [u8])
-    ensures { state.new ≡ stored peer_octets (octets_of_peer p) state.old }
-{
-    if state.len() != PEER_OCTETS {
-        return;
+impl Stored for Peer {
+    ghost OCTETS = { peer_octets };
+
+    ghost octets_of = { octets_of_peer };
+
+    ghost of_octets = { peer_of };
+
+    const OCTETS: usize = PEER_OCTETS;
+
+    // In an array each field's size and place are known, and the compiler copies it at once, from the caller's octets: neither the
+    // array nor the arrays of peer_in take stack.
+    fn decode(octets: &[u8]) -> Peer {
+        let whole: [u8; PEER_OCTETS] = octets::array_at(octets, 0);
+        peer_in(&whole)
     }
-    let numbers = peer_numbers(p);
-    let at = octets::append(state, 0, &numbers);
-    let at = octets::append(state, at, &p.credentials.hash);
-    let at = octets::append(state, at, &p.challenges.authenticator);
-    let at = octets::append(state, at, &p.challenges.own);
-    let at = octets::append(state, at, &p.credentials.name);
-    let at = octets::append(state, at, &p.request);
-    let at = octets::append(state, at, &p.reply);
-    octets::append(state, at, &p.challenges.expected);
+
+    fn encode(self, octets: &mut [u8]) {
+        if octets.len() != PEER_OCTETS {
+            return;
+        }
+        let at = octets::append(octets, 0, &peer_numbers(self));
+        let at = octets::append(octets, at, &self.credentials.hash);
+        let at = octets::append(octets, at, &self.challenges.authenticator);
+        let at = octets::append(octets, at, &self.challenges.own);
+        let at = octets::append(octets, at, &self.credentials.name);
+        let at = octets::append(octets, at, &self.request);
+        let at = octets::append(octets, at, &self.reply);
+        octets::append(octets, at, &self.challenges.expected);
+    }
 }
 
 // ---- the server
@@ -172,8 +153,10 @@ const CHALLENGE_AT: usize = 6;
 
 const SERVER_REQUEST_AT: usize = CHALLENGE_AT + 16;
 
-pub const SERVER_OCTETS: usize = SERVER_REQUEST_AT + Server::REQUEST_ROOM;
+const SERVER_OCTETS: usize = SERVER_REQUEST_AT + Server::REQUEST_ROOM;
 
+// No `From<u8>`, as above. In order, the stages are 0 to 5.
+#[tactic(auto, using(crate::proofs::Trips::server_other), unfolding(crate::specs::ServerOctets::server_stage_of))]
 fn server_stage_of(n: u8) -> server::Stage
     ensures { result ≡ server_stage_of n }
 {
@@ -187,70 +170,49 @@ fn server_stage_of(n: u8) -> server::Stage
     }
 }
 
-fn server_stage_number(stage: server::Stage) -> u8
-    ensures { result ≡ server_stage_number stage }
-{
-    match stage {
-        server::Stage::Begin => 0,
-        server::Stage::ChallengeSent => 1,
-        server::Stage::SuccessRequestSent => 2,
-        server::Stage::FailureRequestSent => 3,
-        server::Stage::Success => 4,
-        server::Stage::Failed => 5,
-    }
-}
-
-// The server that octets stand for.
-pub fn decode_server(state: &[u8]) -> Server
-    ensures { result ≡ server_of state.now }
-{
-    let mut challenge = [0u8; 16];
-    field(&mut challenge, state, CHALLENGE_AT);
-    let mut request = [0u8; Server::REQUEST_ROOM];
-    field(&mut request, state, SERVER_REQUEST_AT);
-    let stage = server_stage_of(octets::octet(state, 0));
-    let id = octets::octet(state, 1);
-    let chapid = octets::octet(state, 2);
-    let retries = octets::octet(state, 3);
-    let requestlen = length_at(state, 4);
-    Server {
-        stage,
-        retries,
-        request: server::Request {
-            id: Identifier(id),
-            chapid: ChapId(chapid),
-            challenge,
-            octets: request,
-            len: requestlen,
-        },
-    }
-}
-
 fn server_numbers(s: Server) -> [u8; 6]
     ensures { result ≡ server_numbers s }
 {
-    let stage = s.stage;
-    let id = s.request.id;
-    let chapid = s.request.chapid;
+    let [low, high] = s.request.len.to_le_bytes();
     [
-        server_stage_number(stage),
-        id.0,
-        chapid.0,
+        s.stage as u8,
+        s.request.id.0,
+        s.request.chapid.0,
         s.retries,
-        (s.request.len % 256) as u8,
-        (s.request.len / 256) as u8,
+        low,
+        high,
     ]
 }
 
-// Writes a server's octets, where there is room for just these.
-pub fn encode_server(s: Server, state: &mut [u8])
-    ensures { state.new ≡ stored server_octets (octets_of_server s) state.old }
-{
-    if state.len() != SERVER_OCTETS {
-        return;
+impl Stored for Server {
+    ghost OCTETS = { server_octets };
+
+    ghost octets_of = { octets_of_server };
+
+    ghost of_octets = { server_of };
+
+    const OCTETS: usize = SERVER_OCTETS;
+
+    fn decode(octets: &[u8]) -> Server {
+        Server {
+            stage: server_stage_of(octets::octet(octets, 0)),
+            retries: octets::octet(octets, 3),
+            request: server::Request {
+                id: Identifier(octets::octet(octets, 1)),
+                chapid: ChapId(octets::octet(octets, 2)),
+                challenge: octets::array_at(octets, CHALLENGE_AT),
+                octets: octets::array_at(octets, SERVER_REQUEST_AT),
+                len: length_at(octets, 4),
+            },
+        }
     }
-    let numbers = server_numbers(s);
-    let at = octets::append(state, 0, &numbers);
-    let at = octets::append(state, at, &s.request.challenge);
-    octets::append(state, at, &s.request.octets);
+
+    fn encode(self, octets: &mut [u8]) {
+        if octets.len() != SERVER_OCTETS {
+            return;
+        }
+        let at = octets::append(octets, 0, &server_numbers(self));
+        let at = octets::append(octets, at, &self.request.challenge);
+        octets::append(octets, at, &self.request.octets);
+    }
 }

@@ -1,8 +1,6 @@
 // An account table on the screen.
 ghost use Rattle.std.specs.Prelude.{◌≤◌};
 
-use answer::Answer;
-use console::File;
 use octets::Order;
 
 fn row(item: &[u8], hashes: bool) {
@@ -28,30 +26,20 @@ fn row(item: &[u8], hashes: bool) {
     console::say(b"\n");
 }
 
-// The length of a record of a well-formed table.
-fn size_of(item: &[u8]) -> usize
+// The length of the first record of a well-formed table.
+fn size_of(table: &[u8]) -> usize
     ensures { (4 ≤ result) × (result ≤ 65535) }
 {
-    let n = octets::number_at(Order::Little, item, 0);
-    if n < 4 {
-        return 4;
-    }
-    if 65535 < n {
-        return 65535;
-    }
-    n
+    octets::number_at(Order::Little, table, 0).clamp(4, 65535)
 }
 
-// Shows a record, if it is an account: 1, and else 0.
-fn show(item: &[u8], hashes: bool) -> usize
-    ensures { result ≤ 1 }
-{
-    let kind = octets::number_at(Order::Little, item, 2);
-    if kind == 1 {
+// Shows a record, if it is an account; whether it is.
+fn show(item: &[u8], hashes: bool) -> bool {
+    let shown = octets::number_at(Order::Little, item, 2) == 1;
+    if shown {
         row(item, hashes);
-        return 1;
     }
-    0
+    shown
 }
 
 fn count(n: usize) {
@@ -66,12 +54,12 @@ fn count(n: usize) {
 // The accounts of a well-formed table, and that all went well.
 pub(crate) fn rows(table: &[u8], hashes: bool) {
     let mut n = 0;
-    let mut at = 0;
-    while at < table.len() {
-        let left = octets::rest(table, at);
+    let mut left = table;
+    // no `for`: a record's length stands in its octets
+    while 0 < left.len() {
         let size = size_of(left);
-        n += show(octets::part(left, 0, size), hashes);
-        at += size;
+        n += usize::from(show(octets::part(left, 0, size), hashes));
+        left = octets::rest(left, size);
     }
     count(n);
     console::number(table.len() as u64);
@@ -85,19 +73,17 @@ fn malformed() {
 }
 
 fn check(table: &[u8], hashes: bool) {
-    let answer = accounts::check(table);
-    match answer {
-        Answer::Written => rows(table, hashes),
-        _ => malformed(),
+    match accounts::check(table) {
+        Ok(()) => rows(table, hashes),
+        Err(_) => malformed(),
     }
 }
 
 // One octet more than a table has at most, so that a longer file is seen to be longer.
 pub(crate) fn list(rt: &HostRuntime, path: &[u8], hashes: bool) {
     let mut table = [0u8; 65537];
-    let file = console::read(rt, b"table: TABLE", path, &mut table);
-    match file {
-        File::Read(n) => check(octets::part(&table, 0, n), hashes),
-        _ => console::ended_badly(b"nothing was listed"),
+    match console::read(rt, b"table: TABLE", path, &mut table) {
+        Ok(n) => check(octets::part(&table, 0, n), hashes),
+        Err(_) => console::ended_badly(b"nothing was listed"),
     }
 }

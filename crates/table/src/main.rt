@@ -1,7 +1,7 @@
 // Makes account tables of lines of text, and lists them.
 #![tactic(auto)]
 
-ghost use Rattle.std.specs.Prelude.{◌≤◌};
+ghost use Rattle.std.specs.Prelude.{◌≤◌, IfSome};
 
 mod listing;
 mod making;
@@ -43,101 +43,80 @@ table list TABLE [hashes]
     console::ended_well();
 }
 
-// Whether argument i is this word.
-fn is_word(rt: &HostRuntime, i: usize, word: &[u8]) -> bool {
-    let mut text = [0u8; 16];
-    match console::arg(rt, i, &mut text) {
-        Some(n) => octets::equal(octets::part(&text, 0, n), word),
-        None => false,
+// Whether argument i is the word hashes, where there is one; if it is another, says so.
+fn hashes_at(rt: &HostRuntime, i: usize, count: usize) -> Option<bool> {
+    if count == i {
+        return Some(false);
+    }
+    let mut word = [0u8; 16];
+    let n = console::arg(rt, i, &mut word).unwrap_or(0);
+    match &word[..n] {
+        b"hashes" => Some(true),
+        _ => {
+            complain(b"the last word is not hashes");
+            None
+        }
     }
 }
 
-fn is_help(rt: &HostRuntime) -> bool {
-    if is_word(rt, 1, b"help") {
-        return true;
-    }
-    if is_word(rt, 1, b"--help") {
-        return true;
-    }
-    is_word(rt, 1, b"-h")
-}
-
-// A path at the front of an array, and how many octets it has: 0 where it is missing or too long.
-fn path_at(rt: &HostRuntime, i: usize, path: &mut [u8; 4096]) -> usize
-    ensures { result ≤ 4096 }
+// A path at the front of an array, and how many octets it has; none where it is missing, empty or too long.
+fn path_at(rt: &HostRuntime, i: usize, path: &mut [u8; 4096]) -> Option<usize>
+    ensures { IfSome result (λ n. n ≤ 4096) }
 {
-    console::arg(rt, i, path).unwrap_or(0)
+    console::arg(rt, i, path).filter(|n| 0 < *n)
 }
 
 fn make(rt: &HostRuntime, count: usize) {
+    if count < 4 {
+        complain(b"LINES or TABLE is missing");
+        return;
+    }
+    if 5 < count {
+        complain(b"there are too many arguments");
+        return;
+    }
     let mut lines = [0u8; 4096];
-    let n = path_at(rt, 2, &mut lines);
-    if n == 0 {
+    let Some(n) = path_at(rt, 2, &mut lines) else {
         complain(b"LINES is empty or too long");
         return;
-    }
+    };
     let mut table = [0u8; 4096];
-    let m = path_at(rt, 3, &mut table);
-    if m == 0 {
+    let Some(m) = path_at(rt, 3, &mut table) else {
         complain(b"TABLE is empty or too long");
         return;
+    };
+    if let Some(hashes) = hashes_at(rt, 4, count) {
+        making::make(rt, &lines[..n], &table[..m], hashes);
     }
-    let hashes = is_word(rt, 4, b"hashes");
-    if count == 5 {
-        if !hashes {
-            complain(b"the last word is not hashes");
-            return;
-        }
-    }
-    making::make(rt, &lines[..n], &table[..m], hashes);
 }
 
 fn list(rt: &HostRuntime, count: usize) {
-    let mut table = [0u8; 4096];
-    let n = path_at(rt, 2, &mut table);
-    if n == 0 {
-        complain(b"TABLE is empty or too long");
+    if count < 3 {
+        complain(b"TABLE is missing");
         return;
     }
-    let hashes = is_word(rt, 3, b"hashes");
-    if count == 4 {
-        if !hashes {
-            complain(b"the last word is not hashes");
-            return;
-        }
+    if 4 < count {
+        complain(b"there are too many arguments");
+        return;
     }
-    listing::list(rt, &table[..n], hashes);
+    let mut table = [0u8; 4096];
+    let Some(n) = path_at(rt, 2, &mut table) else {
+        complain(b"TABLE is empty or too long");
+        return;
+    };
+    if let Some(hashes) = hashes_at(rt, 3, count) {
+        listing::list(rt, &table[..n], hashes);
+    }
 }
 
 fn main(rt: HostRuntime) {
     let count = console::arg_count(&rt);
-    if is_help(&rt) {
-        help();
-        return;
+    let mut word = [0u8; 16];
+    let n = console::arg(&rt, 1, &mut word).unwrap_or(0);
+    match &word[..n] {
+        b"help" | b"--help" | b"-h" => help(),
+        b"make" => make(&rt, count),
+        b"list" => list(&rt, count),
+        _ => complain(b"make or list is missing"),
     }
-    if is_word(&rt, 1, b"make") {
-        if count < 4 {
-            complain(b"LINES or TABLE is missing");
-            return;
-        }
-        if 5 < count {
-            complain(b"there are too many arguments");
-            return;
-        }
-        make(&rt, count);
-        return;
-    }
-    if is_word(&rt, 1, b"list") {
-        if count < 3 {
-            complain(b"TABLE is missing");
-            return;
-        }
-        if 4 < count {
-            complain(b"there are too many arguments");
-            return;
-        }
-        list(&rt, count);
-        return;
-    }
-    complain(b"make or list is missing");
 }

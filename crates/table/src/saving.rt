@@ -1,106 +1,90 @@
 // A table written to a file, whole or not at all: to a new file beside it, which then takes its name.
-ghost use Rattle.std.specs.Prelude.{◌≤◌};
-
-use std::fs;
 use std::fs::{File, Metadata, OpenOptions, Permissions};
-use std::io::{ErrorKind, Result, Write};
+use std::io::{Error, ErrorKind, Write};
 use std::os::unix::fs::{MetadataExt, OpenOptionsExt, PermissionsExt, fchown};
 use std::random::RandomSource;
+use std::{fs, io};
 
-// What came of it: nothing was written; or the table is in its place, and not known to outlast a crash; or it is.
+// Why a table is not safe in its place: nothing was written; or it is there, and not known to outlast a crash.
 #[derive(Drop)]
-pub(crate) enum Saved {
+pub(crate) enum SaveError {
     Nothing,
     Unsettled,
-    Settled,
+}
+
+// What could not be done before anything was replaced is said, with the cause.
+fn nothing(what: &[u8], cause: Error) -> SaveError {
+    console::fail(what, cause);
+    SaveError::Nothing
+}
+
+// The same once the table is in its place.
+fn unsettled(what: &[u8], cause: Error) -> SaveError {
+    console::fail(what, cause);
+    SaveError::Unsettled
 }
 
 // ---- what stands at a path, of which the first 4,095 octets are looked at
 
-fn status(rt: &HostRuntime, path: &[u8]) -> Result<Metadata> {
+fn status(rt: &HostRuntime, path: &[u8]) -> io::Result<Metadata> {
     fs::metadata(rt, console::path_of(octets::part(path, 0, 4095))?)
 }
 
 // What is known of what stands at a path itself, and not of what a symbolic link there leads to.
-fn look(rt: &HostRuntime, path: &[u8]) -> Result<Metadata> {
+fn look(rt: &HostRuntime, path: &[u8]) -> io::Result<Metadata> {
     fs::symlink_metadata(rt, console::path_of(octets::part(path, 0, 4095))?)
 }
 
 fn is_link(rt: &HostRuntime, path: &[u8]) -> bool {
-    match look(rt, path) {
-        Ok(st) => st.is_symlink(),
-        Err(_) => false,
-    }
-}
-
-fn is_regular(st: &Metadata) -> bool {
-    st.is_file()
-}
-
-fn is_same(a: &Metadata, b: &Metadata) -> bool {
-    if a.dev() != b.dev() {
-        return false;
-    }
-    a.ino() == b.ino()
+    look(rt, path).is_ok_and(|st| st.is_symlink())
 }
 
 // Whether a file is that of the lines.
 fn is_lines(rt: &HostRuntime, old: &Metadata, lines: &[u8]) -> bool {
     match status(rt, lines) {
-        Ok(st) => is_same(old, &st),
+        Ok(st) => (old.dev() == st.dev()) & (old.ino() == st.ino()),
         Err(_) => false,
     }
 }
 
 // Whether a table may take the place of a file. If not, says why.
-fn may_replace(rt: &HostRuntime, old: &Metadata, lines: &[u8]) -> bool {
-    if !is_regular(old) {
+fn may_replace(rt: &HostRuntime, old: &Metadata, lines: &[u8]) -> Result<(), SaveError> {
+    if !old.is_file() {
         console::complain(b"table: TABLE is there and is no regular file\n");
-        return false;
+        return Err(SaveError::Nothing);
     }
     if is_lines(rt, old, lines) {
         console::complain(b"table: TABLE is the file LINES\n");
-        return false;
+        return Err(SaveError::Nothing);
     }
-    true
+    Ok(())
 }
 
 // ---- the new file
 
 // The owner, the group and the permissions of the old file. Without one the new file stays as it was made, and only its
 // owner may read it.
-fn keep(file: &File, old: Option<&Metadata>) -> bool {
+fn keep(file: &File, old: Option<&Metadata>) -> Result<(), SaveError> {
     let Some(old) = old else {
-        return true;
+        return Ok(());
     };
-    if let Err(cause) = fchown(file, Some(old.uid()), Some(old.gid())) {
-        console::fail(
+    fchown(file, Some(old.uid()), Some(old.gid())).map_err(|cause| {
+        nothing(
             b"table: the owner and the group of TABLE cannot be kept",
             cause,
-        );
-        return false;
-    }
-    if let Err(cause) = file.set_permissions(Permissions::from_mode(old.mode() & 0o777)) {
-        console::fail(b"table: the mode of TABLE cannot be kept", cause);
-        return false;
-    }
-    true
+        )
+    })?;
+    file.set_permissions(Permissions::from_mode(old.mode() & 0o777))
+        .map_err(|cause| nothing(b"table: the mode of TABLE cannot be kept", cause))
 }
 
 // The octets reach the disk before the file gets its name.
-fn fill(file: &mut File, table: &[u8], old: Option<&Metadata>) -> bool {
-    if let Err(cause) = file.write_all(table) {
-        console::fail(b"table: TABLE cannot be written", cause);
-        return false;
-    }
-    if !keep(file, old) {
-        return false;
-    }
-    if let Err(cause) = file.sync_all() {
-        console::fail(b"table: TABLE cannot be written", cause);
-        return false;
-    }
-    true
+fn fill(file: &mut File, table: &[u8], old: Option<&Metadata>) -> Result<(), SaveError> {
+    file.write_all(table)
+        .map_err(|cause| nothing(b"table: TABLE cannot be written", cause))?;
+    keep(file, old)?;
+    file.sync_all()
+        .map_err(|cause| nothing(b"table: TABLE cannot be written", cause))
 }
 
 // The letters and digits that a new file's name may end in.
@@ -110,19 +94,18 @@ const LETTERS: [u8; 62] = *b"0123456789ABCDEFGHIJKLMNOPQRSTUVWXYZabcdefghijklmno
 const TRIES: usize = 238328;
 
 // Six letters and digits, at random, in place of the last six octets of a name.
-fn draw(rt: &HostRuntime, name: &mut [u8]) -> Result<()> {
+fn draw(rt: &HostRuntime, name: &mut [u8]) -> io::Result<()> {
     let mut random = [0u8; 6];
     rt.fill_bytes(&mut random)?;
     let n = name.len().saturating_sub(6);
-    for i in 0..6 {
-        let x = LETTERS[random[i] as usize % 62];
-        octets::put_at(name, n + i, &[x]);
+    for (x, y) in name[n..].iter_mut().zip(&random) {
+        *x = LETTERS[*y as usize % 62];
     }
     Ok(())
 }
 
 // A file that was not there before, which only its owner may read and write.
-fn create_new(rt: &HostRuntime, name: &[u8]) -> Result<File> {
+fn create_new(rt: &HostRuntime, name: &[u8]) -> io::Result<File> {
     OpenOptions::new()
         .write(true)
         .create_new(true)
@@ -131,7 +114,7 @@ fn create_new(rt: &HostRuntime, name: &[u8]) -> Result<File> {
 }
 
 // A new file with a name of this pattern, whose last six octets are drawn until there is no such file.
-fn create_temp(rt: &HostRuntime, name: &mut [u8]) -> Result<File> {
+fn create_temp(rt: &HostRuntime, name: &mut [u8]) -> io::Result<File> {
     for _ in 1..TRIES {
         draw(rt, name)?;
         match create_new(rt, name) {
@@ -151,15 +134,18 @@ fn unlink(rt: &HostRuntime, name: &[u8]) {
 }
 
 // A new file with a name of this pattern, filled. Where that fails nothing is left of it.
-fn make(rt: &HostRuntime, name: &mut [u8], table: &[u8], old: Option<&Metadata>) -> bool {
-    let filled = match create_temp(rt, name) {
-        Ok(mut file) => fill(&mut file, table, old),
-        Err(cause) => {
-            console::fail(b"table: TABLE cannot be written", cause);
-            return false;
-        }
-    };
-    if !filled {
+fn make(
+    rt: &HostRuntime,
+    name: &mut [u8],
+    table: &[u8],
+    old: Option<&Metadata>,
+) -> Result<(), SaveError> {
+    let mut file = create_temp(rt, name).map_err(|cause| nothing(
+        b"table: TABLE cannot be written",
+        cause,
+    ))?;
+    let filled = fill(&mut file, table, old);
+    if filled.is_err() {
         unlink(rt, name);
     }
     filled
@@ -167,56 +153,38 @@ fn make(rt: &HostRuntime, name: &mut [u8], table: &[u8], old: Option<&Metadata>)
 
 // ---- its name
 
-fn after_slash(x: u8, next: usize, n: usize) -> usize {
-    if x == b'/' {
-        return next;
+// The folder of a path, with the slash; nothing where the path names none.
+fn folder_of(path: &[u8]) -> &[u8] {
+    match path.iter().rposition(|x| *x == b'/') {
+        Some(i) => &path[..i + 1],
+        None => &[],
     }
-    n
 }
 
-// How many octets of a path name its folder, with the slash.
-fn folder_of(path: &[u8]) -> usize {
-    let mut n = 0;
-    let mut i = 0;
-    while i < path.len() {
-        let x = path[i];
-        i += 1;
-        n = after_slash(x, i, n);
+fn open_folder(rt: &HostRuntime, path: &[u8]) -> io::Result<File> {
+    match folder_of(path) {
+        [] => fs::open(rt, "."),
+        folder => fs::open(rt, console::path_of(folder)?),
     }
-    n
-}
-
-fn open_folder(rt: &HostRuntime, path: &[u8]) -> Result<File> {
-    let n = folder_of(path);
-    if n == 0 {
-        return fs::open(rt, ".");
-    }
-    fs::open(rt, console::path_of(octets::part(path, 0, n))?)
 }
 
 // The folder, with the file's new name in it, reaches the disk.
-fn settle(rt: &HostRuntime, path: &[u8]) -> Saved {
-    let folder = match open_folder(rt, path) {
-        Ok(folder) => folder,
-        Err(cause) => {
-            console::fail(
-                b"table: TABLE was replaced, but its folder cannot be opened",
-                cause,
-            );
-            return Saved::Unsettled;
-        }
-    };
-    if let Err(cause) = folder.sync_all() {
-        console::fail(
+fn settle(rt: &HostRuntime, path: &[u8]) -> Result<(), SaveError> {
+    let folder = open_folder(rt, path).map_err(|cause| {
+        unsettled(
+            b"table: TABLE was replaced, but its folder cannot be opened",
+            cause,
+        )
+    })?;
+    folder.sync_all().map_err(|cause| {
+        unsettled(
             b"table: TABLE was replaced, but its folder cannot be written",
             cause,
-        );
-        return Saved::Unsettled;
-    }
-    Saved::Settled
+        )
+    })
 }
 
-fn rename(rt: &HostRuntime, name: &[u8], path: &[u8]) -> Result<()> {
+fn rename(rt: &HostRuntime, name: &[u8], path: &[u8]) -> io::Result<()> {
     fs::rename(rt, console::path_of(name)?, console::path_of(path)?)
 }
 
@@ -226,61 +194,51 @@ fn save(
     path: &[u8],
     table: &[u8],
     old: Option<&Metadata>,
-) -> Saved {
-    if !make(rt, name, table, old) {
-        return Saved::Nothing;
-    }
+) -> Result<(), SaveError> {
+    make(rt, name, table, old)?;
     if let Err(cause) = rename(rt, name, path) {
-        console::fail(b"table: TABLE cannot be written", cause);
         unlink(rt, name);
-        return Saved::Nothing;
+        return Err(nothing(b"table: TABLE cannot be written", cause));
     }
     settle(rt, path)
 }
 
-// A pattern for the new file's name, beside the path, of r octets; 0 where the path is too long for one.
-fn pattern(name: &mut [u8], path: &[u8]) -> usize
-    ensures { result ≤ 4095 }
-{
+fn save_beside(
+    rt: &HostRuntime,
+    path: &[u8],
+    table: &[u8],
+    old: Option<&Metadata>,
+) -> Result<(), SaveError> {
+    let mut space = [0u8; 4096];
     let n = path.len();
     if 4088 < n {
-        return 0;
+        console::complain(b"table: the path of TABLE is too long\n");
+        return Err(SaveError::Nothing);
     }
+    // A pattern for the new file's name, beside the path.
+    let name = &mut space[..n + 7];
     octets::put_at(name, 0, path);
     octets::put_at(name, n, b".XXXXXX");
-    n + 7
-}
-
-fn save_beside(rt: &HostRuntime, path: &[u8], table: &[u8], old: Option<&Metadata>) -> Saved {
-    let mut name = [0u8; 4096];
-    let n = pattern(&mut name, path);
-    if n == 0 {
-        console::complain(b"table: the path of TABLE is too long\n");
-        return Saved::Nothing;
-    }
-    save(rt, &mut name[0..n], path, table, old)
-}
-
-// Where a regular file stands at a path, and a table may take its place.
-fn replace(rt: &HostRuntime, lines: &[u8], path: &[u8], table: &[u8], old: Metadata) -> Saved {
-    if !may_replace(rt, &old, lines) {
-        return Saved::Nothing;
-    }
-    save_beside(rt, path, table, Some(&old))
+    save(rt, name, path, table, old)
 }
 
 // Writes a table to a path, where nothing stands or another regular file than that of the lines.
-pub(crate) fn write(rt: &HostRuntime, lines: &[u8], path: &[u8], table: &[u8]) -> Saved {
+pub(crate) fn write(
+    rt: &HostRuntime,
+    lines: &[u8],
+    path: &[u8],
+    table: &[u8],
+) -> Result<(), SaveError> {
     if is_link(rt, path) {
         console::complain(b"table: TABLE is a symbolic link; name the file that it leads to\n");
-        return Saved::Nothing;
+        return Err(SaveError::Nothing);
     }
     match status(rt, path) {
-        Ok(old) => replace(rt, lines, path, table, old),
-        Err(cause) if cause.kind() == ErrorKind::NotFound => save_beside(rt, path, table, None),
-        Err(cause) => {
-            console::fail(b"table: TABLE cannot be written", cause);
-            Saved::Nothing
+        Ok(old) => {
+            may_replace(rt, &old, lines)?;
+            save_beside(rt, path, table, Some(&old))
         }
+        Err(cause) if cause.kind() == ErrorKind::NotFound => save_beside(rt, path, table, None),
+        Err(cause) => Err(nothing(b"table: TABLE cannot be written", cause)),
     }
 }

@@ -1,21 +1,14 @@
 // des KEY BLOCK, parity KEY
 use super::script;
-use answer::Answer;
 use std::io;
 use std::io::Print;
 
 pub(crate) fn des(rt: &impl Print, line: &[u8]) -> io::Result<()> {
-    let mut key = [0u8; 8];
-    script::field(line, 1, &mut key);
-    let mut block = [0u8; 8];
-    script::field(line, 2, &mut block);
-    let out = des::encipher(key, block);
-    script::tell(rt, b"des", Answer::Written, &out)
+    let out = des::encipher(script::array(line, 1), script::array(line, 2));
+    script::tell(rt, b"des", 0, &out)
 }
 
 pub(crate) fn parity(rt: &impl Print, line: &[u8]) -> io::Result<()> {
-    let mut key = [0u8; 7];
-    script::field(line, 1, &mut key);
-    let out = des::key_octets(key);
-    script::tell(rt, b"parity", Answer::Written, &out)
+    let out = des::key_octets(script::array(line, 1));
+    script::tell(rt, b"parity", 0, &out)
 }

@@ -2,151 +2,148 @@
 // give_up. The server: server; start IDENTIFIER CHALLENGE NAME RETRIES; packet PACKET TABLE FRESH; resend. Each writes what
 // is in the reply buffer, and a step also the text that it tells.
 use super::script;
-use answer::{Answer, Identifier};
-use packet::Place;
+use answer::{Identifier, Refusal, Reply};
 use peer::{Peer, PeerStep};
 use server::{Server, ServerStep};
 use std::io;
 use std::io::Print;
 
 #[derive(Drop)]
-pub struct Ends {
-    pub peer: Peer,
-    pub server: Server,
+pub(crate) struct Ends {
+    peer: Peer,
+    server: Server,
 }
 
-fn sixteen(line: &[u8], k: usize) -> [u8; 16] {
-    let mut out = [0u8; 16];
-    script::field(line, k, &mut out);
-    out
-}
-
-fn octet(line: &[u8], k: usize) -> u8 {
-    let mut out = [0u8; 1];
-    script::field(line, k, &mut out);
-    out[0]
-}
-
-fn after_peer(
-    rt: &impl Print,
-    name: &[u8],
-    done: PeerStep,
-    reply: &[u8],
-    ends: Ends,
-) -> io::Result<Ends> {
-    let answer = done.answer;
-    let n = done.n;
-    script::tell(rt, name, answer, octets::part(reply, 0, n))?;
-    let peer = done.peer;
-    let server = ends.server;
-    Ok(Ends { peer, server })
-}
-
-fn after_server(
-    rt: &impl Print,
-    name: &[u8],
-    done: ServerStep,
-    reply: &[u8],
-    ends: Ends,
-) -> io::Result<Ends> {
-    let answer = done.answer;
-    let n = done.n;
-    script::tell(rt, name, answer, octets::part(reply, 0, n))?;
-    let peer = ends.peer;
-    let server = done.server;
-    Ok(Ends { peer, server })
-}
-
-pub(crate) fn fresh() -> Ends {
-    let made = Peer::new(b"", [0u8; 16]);
-    let peer = made.peer;
-    let server = Server::new();
-    Ends { peer, server }
-}
-
-pub(crate) fn make_peer(rt: &impl Print, line: &[u8], ends: Ends) -> io::Result<Ends> {
-    let mut name = [0u8; 300];
-    let n = script::field(line, 1, &mut name);
-    let done = Peer::new(&name[0..n], sixteen(line, 2));
-    after_peer(rt, b"peer", done, b"", ends)
-}
-
-// The text that a step tells, if it has any octets.
-fn tell_text(rt: &impl Print, answer: Answer, text: Place, packet: &[u8]) -> io::Result<()> {
-    if text.len == 0 {
-        return Ok(());
+fn number_of(answer: Result<Reply, Refusal>) -> u8 {
+    match answer {
+        Ok(reply) => u8::from(reply.done),
+        Err(why) => u8::from(why),
     }
-    script::tell(
-        rt,
-        b"text",
-        answer,
-        octets::part(packet, text.start, text.len),
-    )
 }
 
-fn take(rt: &impl Print, packet: &[u8], random: [u8; 16], ends: Ends) -> io::Result<Ends> {
-    let mut reply = [0u8; 400];
-    let peer = ends.peer;
-    let done = peer.step(packet, random, &mut reply);
-    let answer = done.answer;
-    let text = done.text;
-    let after = after_peer(rt, b"step", done, &reply, ends)?;
-    tell_text(rt, answer, text, packet)?;
-    Ok(after)
+fn written(answer: Result<Reply, Refusal>, reply: &[u8]) -> &[u8] {
+    match answer {
+        Ok(said) => octets::part(reply, 0, said.n),
+        Err(_) => &[],
+    }
 }
 
-pub(crate) fn step(rt: &impl Print, line: &[u8], ends: Ends) -> io::Result<Ends> {
-    let mut packet = [0u8; 1100];
-    let n = script::field(line, 1, &mut packet);
-    take(rt, &packet[0..n], sixteen(line, 2), ends)
-}
+impl Ends {
+    pub(crate) fn fresh() -> Ends {
+        Ends {
+            peer: Peer::new(b"", [0u8; 16]).peer,
+            server: Server::new(),
+        }
+    }
 
-pub(crate) fn supply(rt: &impl Print, line: &[u8], ends: Ends) -> io::Result<Ends> {
-    let mut name = [0u8; 300];
-    let n = script::field(line, 1, &mut name);
-    let mut reply = [0u8; 400];
-    let peer = ends.peer;
-    let done = peer.supply(&name[0..n], sixteen(line, 2), sixteen(line, 3), &mut reply);
-    after_peer(rt, b"supply", done, &reply, ends)
-}
+    fn after_peer(
+        &mut self,
+        rt: &impl Print,
+        name: &[u8],
+        done: PeerStep,
+        reply: &[u8],
+    ) -> io::Result<()> {
+        self.peer = done.peer;
+        script::tell(
+            rt,
+            name,
+            number_of(done.answer),
+            written(done.answer, reply),
+        )
+    }
 
-pub(crate) fn give_up(rt: &impl Print, ends: Ends) -> io::Result<Ends> {
-    let peer = ends.peer;
-    let done = peer.give_up();
-    after_peer(rt, b"give_up", done, b"", ends)
-}
+    fn after_server(
+        &mut self,
+        rt: &impl Print,
+        name: &[u8],
+        done: ServerStep,
+        reply: &[u8],
+    ) -> io::Result<()> {
+        self.server = done.server;
+        script::tell(
+            rt,
+            name,
+            number_of(done.answer),
+            written(done.answer, reply),
+        )
+    }
 
-pub(crate) fn make_server(ends: Ends) -> Ends {
-    let peer = ends.peer;
-    let server = Server::new();
-    Ends { peer, server }
-}
+    pub(crate) fn make_peer(&mut self, rt: &impl Print, line: &[u8]) -> io::Result<()> {
+        let mut name = [0u8; 300];
+        let n = script::octets_of(line, 1, &mut name);
+        let done = Peer::new(&name[..n], script::array(line, 2));
+        self.after_peer(rt, b"peer", done, b"")
+    }
 
-pub(crate) fn start(rt: &impl Print, line: &[u8], ends: Ends) -> io::Result<Ends> {
-    let mut name = [0u8; 300];
-    let n = script::field(line, 3, &mut name);
-    let mut reply = [0u8; 400];
-    let server = ends.server;
-    let id = Identifier(octet(line, 1));
-    let retries = octet(line, 4) as u64;
-    let done = server.start(id, sixteen(line, 2), &name[0..n], retries, &mut reply);
-    after_server(rt, b"start", done, &reply, ends)
-}
+    // The text that a step tells has a line if it has any octets.
+    pub(crate) fn step(&mut self, rt: &impl Print, line: &[u8]) -> io::Result<()> {
+        let mut packet = [0u8; 1100];
+        let n = script::octets_of(line, 1, &mut packet);
+        let mut reply = [0u8; 400];
+        let done = self
+            .peer
+            .step(&packet[..n], script::array(line, 2), &mut reply);
+        self.after_peer(rt, b"step", done, &reply)?;
+        let text = done.text;
+        if text.len == 0 {
+            return Ok(());
+        }
+        let told = octets::part(octets::part(&packet, 0, n), text.start, text.len);
+        script::tell(rt, b"text", number_of(done.answer), told)
+    }
 
-pub(crate) fn packet(rt: &impl Print, line: &[u8], ends: Ends) -> io::Result<Ends> {
-    let mut packet = [0u8; 1100];
-    let n = script::field(line, 1, &mut packet);
-    let mut table = [0u8; 4096];
-    let m = script::field(line, 2, &mut table);
-    let mut reply = [0u8; 400];
-    let server = ends.server;
-    let done = server.packet(&packet[0..n], &table[0..m], sixteen(line, 3), &mut reply);
-    after_server(rt, b"packet", done, &reply, ends)
-}
+    pub(crate) fn supply(&mut self, rt: &impl Print, line: &[u8]) -> io::Result<()> {
+        let mut name = [0u8; 300];
+        let n = script::octets_of(line, 1, &mut name);
+        let mut reply = [0u8; 400];
+        let hash = script::array(line, 2);
+        let random = script::array(line, 3);
+        let done = self.peer.supply(&name[..n], hash, random, &mut reply);
+        self.after_peer(rt, b"supply", done, &reply)
+    }
 
-pub(crate) fn resend(rt: &impl Print, ends: Ends) -> io::Result<Ends> {
-    let mut reply = [0u8; 400];
-    let server = ends.server;
-    let done = server.resend(&mut reply);
-    after_server(rt, b"resend", done, &reply, ends)
+    pub(crate) fn give_up(&mut self, rt: &impl Print) -> io::Result<()> {
+        let done = self.peer.give_up();
+        self.after_peer(rt, b"give_up", done, b"")
+    }
+
+    pub(crate) fn make_server(&mut self) -> io::Result<()> {
+        self.server = Server::new();
+        Ok(())
+    }
+
+    pub(crate) fn start(&mut self, rt: &impl Print, line: &[u8]) -> io::Result<()> {
+        let mut name = [0u8; 300];
+        let n = script::octets_of(line, 3, &mut name);
+        let mut reply = [0u8; 400];
+        let [id]: [u8; 1] = script::array(line, 1);
+        let [retries]: [u8; 1] = script::array(line, 4);
+        let done = self.server.start(
+            Identifier(id),
+            script::array(line, 2),
+            &name[..n],
+            u64::from(retries),
+            &mut reply,
+        );
+        self.after_server(rt, b"start", done, &reply)
+    }
+
+    pub(crate) fn packet(&mut self, rt: &impl Print, line: &[u8]) -> io::Result<()> {
+        let mut packet = [0u8; 1100];
+        let n = script::octets_of(line, 1, &mut packet);
+        let mut table = [0u8; 4096];
+        let m = script::octets_of(line, 2, &mut table);
+        let mut reply = [0u8; 400];
+        let fresh = script::array(line, 3);
+        let done = self
+            .server
+            .packet(&packet[..n], &table[..m], fresh, &mut reply);
+        self.after_server(rt, b"packet", done, &reply)
+    }
+
+    pub(crate) fn resend(&mut self, rt: &impl Print) -> io::Result<()> {
+        let mut reply = [0u8; 400];
+        let done = self.server.resend(&mut reply);
+        self.after_server(rt, b"resend", done, &reply)
+    }
 }

@@ -1,35 +1,33 @@
 // check TABLE; find TABLE USER: the account's code, low octet first, and its hash, or nothing where there is none
 use super::script;
-use accounts::Found;
-use answer::{Answer, Refusal};
+use accounts::Account;
 use std::io;
 use std::io::Print;
 
 pub(crate) fn check(rt: &impl Print, line: &[u8]) -> io::Result<()> {
     let mut table = [0u8; 65600];
-    let n = script::field(line, 1, &mut table);
-    let answer = accounts::check(&table[0..n]);
-    script::tell(rt, b"check", answer, b"")
+    let n = script::octets_of(line, 1, &mut table);
+    match accounts::check(&table[..n]) {
+        Ok(()) => script::tell(rt, b"check", 0, b""),
+        Err(why) => script::tell(rt, b"check", u8::from(why), b""),
+    }
 }
 
-fn tell_account(rt: &impl Print, code: u16, hash: &[u8]) -> io::Result<()> {
+fn tell_account(rt: &impl Print, account: Account, table: &[u8]) -> io::Result<()> {
     let mut out = [0u8; 18];
-    out[0] = (code % 256) as u8;
-    out[1] = (code / 256) as u8;
-    octets::put_at(&mut out, 2, hash);
-    script::tell(rt, b"find", Answer::Written, &out)
+    octets::put_at(&mut out, 0, &account.code.to_le_bytes());
+    octets::put_at(&mut out, 2, octets::part(table, account.hash, 16));
+    script::tell(rt, b"find", 0, &out)
 }
 
 pub(crate) fn find(rt: &impl Print, line: &[u8]) -> io::Result<()> {
     let mut table = [0u8; 65600];
-    let n = script::field(line, 1, &mut table);
+    let n = script::octets_of(line, 1, &mut table);
     let mut user = [0u8; 300];
-    let m = script::field(line, 2, &mut user);
-    let found = accounts::find(&table[0..n], &user[0..m]);
-    match found {
-        Found::Malformed => script::tell(rt, b"find", Answer::Refused(Refusal::BadTable), b""),
-        Found::BadUser => script::tell(rt, b"find", Answer::Refused(Refusal::BadArgument), b""),
-        Found::Absent => script::tell(rt, b"find", Answer::Written, b""),
-        Found::Account { code, hash } => tell_account(rt, code, octets::part(&table, hash, 16)),
+    let m = script::octets_of(line, 2, &mut user);
+    match accounts::find(&table[..n], &user[..m]) {
+        Ok(Some(account)) => tell_account(rt, account, &table),
+        Ok(None) => script::tell(rt, b"find", 0, b""),
+        Err(why) => script::tell(rt, b"find", u8::from(why), b""),
     }
 }

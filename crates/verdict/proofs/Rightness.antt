@@ -3,7 +3,6 @@ use Prim.Native.Nat.{ℕ, ◌<◌}
 use mathlib.Core.Path.{◌≡◌, refl, sym, ap, ◌∙◌}
 use mathlib.Core.List.{List}
 use mathlib.Core.Bool.{true, false, not}
-use native.Mathlib.Omega.{arith}
 use lib.ListN.{get_or}
 use borrow.Author.Tests.{not-true, not-false}
 use Rattle.octets.specs.Octets.{same}
@@ -14,7 +13,6 @@ use Rattle.accounts.proofs.Lookups.{account_good_lem}
 use Rattle.mschap.specs.Users.{user_of}
 use Rattle.mschap.specs.Responses.{nt_response, authenticator_of}
 use Rattle.mschap.proofs.Responses.{authenticator_octet}
-use Rattle.verdict.specs.declared.Mark.TheVariants as mark
 use Rattle.verdict.specs.declared.Verdict.{Verdict}
 use Rattle.verdict.specs.Verdict.{Right, bad_table, wrong, right, judge_user, judge_of}
 use Rattle.verdict.specs.Promises.{Judges, judges_malformed, judges_wrong, judges_right, VerdictsExact}
@@ -62,21 +60,30 @@ module _ (challenge peer response user table : List ℕ) where
   judged (judges_wrong w h) = sym (judge_wrong w h)
   judged (judges_right w r) = sym (judge_right w r)
 
-  -- what is marked Right is right
-  pub right_judged : (judge_user challenge peer response user table).mark ≡ mark.Right → (well_formed table ≡ true) × Right challenge peer response user table
-  right_judged = go judges
-    where
-      go : {v : Verdict} → Judges challenge peer response user table v → v.mark ≡ mark.Right → (well_formed table ≡ true) × Right challenge peer response user table
-      go (judges_malformed w) m = let z : ◌≡◌ {A = ℕ} 0 1 = cc in absurd (omega arith)
-      go (judges_wrong w h) m = let z : ◌≡◌ {A = ℕ} 0 1 = cc in absurd (omega arith)
-      go (judges_right w r) m = (w, r)
+  -- what gets Right is right
+  module _ (code : ℕ) (string : List ℕ) (m : judge_user challenge peer response user table ≡ right code string) where
+    pub right_judged : (well_formed table ≡ true) × Right challenge peer response user table
+    right_judged = go judges m
+      where
+        go : {v : Verdict} → Judges challenge peer response user table v → v ≡ right code string → (well_formed table ≡ true) × Right challenge peer response user table
+        go (judges_malformed w) e = absurd (cc)
+        go (judges_wrong w h) e = absurd (cc)
+        go (judges_right w r) e = (w, r)
 
-  -- then the code is one of the five, and the string consists of octets
-  pub right_code : (judge_user challenge peer response user table).mark ≡ mark.Right → is_code (judge_user challenge peer response user table).code ≡ true
-  right_code m = let r = right_judged m in ap (λ (v : Verdict). is_code v.code) (judge_right r.0 r.1) ∙ (account_good_lem table user r.0 r.1.account).code
+    -- by the account's code and the authenticator string
+    told_right : right code string ≡ granted
+    told_right = sym m ∙ judge_right right_judged.0 right_judged.1
 
-  pub right_string : (judge_user challenge peer response user table).mark ≡ mark.Right → (k : ℕ) → get_or (judge_user challenge peer response user table).string k 0 < 256
-  right_string m k = let r = right_judged m in rw (judge_right r.0 r.1) (authenticator_octet _ _ _ _ _ k)
+    -- then the code is one of the five, and the string consists of octets
+    pub right_code : is_code code ≡ true
+    right_code =
+        let e : code ≡ code_of (record_of table user) = cc told_right in
+        ap is_code e ∙ (account_good_lem table user right_judged.0 right_judged.1.account).code
+
+    pub right_string : (k : ℕ) → get_or string k 0 < 256
+    right_string k =
+        let e : string ≡ authenticator_of (hash_of (record_of table user)) response peer challenge user = cc told_right in
+        rw e (authenticator_octet _ _ _ _ _ k)
 
 pub verdicts_exact : VerdictsExact
 unfolding judge_of

@@ -1,128 +1,46 @@
 // The verdict on a Response: the only code that looks into the account table.
 #![tactic(auto)]
 
-ghost use Rattle.std.specs.Prelude.{◌≡◌, true, not, ◌≤◌, length, eqb};
-ghost use Rattle.octets.specs.Octets.{same};
-ghost use Rattle.answer.specs.Sizes.{max_name};
-ghost use Rattle.mschap.specs.Responses.{nt_response, authenticator_of};
+ghost use Rattle.std.specs.Prelude.{◌≡◌, not, eqb};
 ghost use Rattle.verdict.specs.Inner.{weighed};
-ghost use Rattle.verdict.specs.Verdict.{judge_user, judge_of};
+ghost use Rattle.verdict.specs.Verdict.{judge_of};
 
-// Malformed is the mark of a table, Wrong and Right are marks of a Response.
+use accounts::Account;
+use mschap::Exchange;
+
+// Malformed says it of the table, the others of a Response. What is Right comes with the account's code and the authenticator
+// string's octets.
 #[derive(Clone, Copy)]
-pub enum Mark {
+pub enum Verdict {
     Malformed,
     Wrong,
-    Right,
+    Right { code: u16, string: [u8; 20] },
 }
 
-// Where the mark is Right, the account's code and the authenticator string's octets, and else zeros.
-#[derive(Clone, Copy)]
-pub struct Verdict {
-    pub mark: Mark,
-    pub code: u16,
-    pub string: [u8; 20],
-}
-
-const MALFORMED: Verdict = Verdict {
-    mark: Mark::Malformed,
-    code: 0,
-    string: [0; 20],
-};
-
-const WRONG: Verdict = Verdict {
-    mark: Mark::Wrong,
-    code: 0,
-    string: [0; 20],
-};
-
-// Whether the NT-Response is the one computed from a hash. All its octets are compared.
-fn is_computed(
-    challenge: [u8; 16],
-    peer: [u8; 16],
-    response: [u8; 24],
-    user: &[u8],
-    hash: [u8; 16],
-) -> bool
-    ensures { length user.now ≤ max_name → result ≡ same (nt_response challenge peer user.now hash) response }
+// A Response weighed by a hash, which is that of the account if there is one. An NT-Response is computed and compared in any case,
+// and before it is asked whether there is an account: what is not the computed one costs the same with and without.
+#[tactic(auto, unfolding(crate::specs::Inner::weighed, octets::specs::Choice::pick))]
+fn weigh(exchange: &Exchange, account: Account, hash: [u8; 16], response: [u8; 24]) -> Verdict
+    ensures { result ≡ weighed (not (eqb account.hash 0)) account.code hash exchange.now.authenticator exchange.now.peer response exchange.now.user.now }
 {
-    let own = mschap::nt_response(challenge, peer, user, hash);
-    let octets = own.octets;
-    octets::equal(&octets, &response)
-}
-
-// The authenticator string's octets.
-fn string_of(
-    hash: [u8; 16],
-    challenge: [u8; 16],
-    peer: [u8; 16],
-    response: [u8; 24],
-    user: &[u8],
-) -> [u8; 20]
-    requires { length user.now ≤ max_name }
-    ensures { result ≡ authenticator_of hash response peer challenge user.now }
-{
-    let made = mschap::authenticator_string(hash, response, peer, challenge, user);
-    made.octets
-}
-
-// An NT-Response is computed and compared in any case, and before it is asked whether there is an account: what is not the
-// computed one costs the same with and without.
-fn weigh(
-    known: bool,
-    code: u16,
-    hash: [u8; 16],
-    challenge: [u8; 16],
-    peer: [u8; 16],
-    response: [u8; 24],
-    user: &[u8],
-) -> Verdict
-    requires { known ≡ true → length user.now ≤ max_name }
-    ensures { result ≡ weighed known code hash challenge peer response user.now }
-{
-    let computed = is_computed(challenge, peer, response, user, hash);
+    let own = exchange.nt_response(hash);
+    let computed = octets::equal(&own, &response);
     if !computed {
-        return WRONG;
+        return Verdict::Wrong;
     }
-    if !known {
-        return WRONG;
+    if account.hash == 0 {
+        return Verdict::Wrong;
     }
-    let string = string_of(hash, challenge, peer, response, user);
-    Verdict {
-        mark: Mark::Right,
-        code,
+    let string = exchange.authenticator_string(hash, response);
+    Verdict::Right {
+        code: account.code,
         string,
     }
 }
 
-// Whether a hash begins there: none does at the table's first octet.
-fn is_place(place: usize) -> bool
-    ensures { result ≡ not (eqb place 0) }
-{
-    place != 0
-}
-
-// A Response is weighed in the same way whether its user has an account or not: without one, by the first octets of the table.
-fn judge_user(
-    challenge: [u8; 16],
-    peer: [u8; 16],
-    response: [u8; 24],
-    user: &[u8],
-    table: &[u8],
-) -> Verdict
-    ensures { result ≡ judge_user challenge peer response user.now table.now }
-{
-    let looked = accounts::look(table, user);
-    if !looked.formed {
-        return MALFORMED;
-    }
-    let place = looked.hash;
-    let here = is_place(place);
-    let hash = packet::sixteen_at(table, place);
-    weigh(here, looked.code, hash, challenge, peer, response, user)
-}
-
-// A Response's peer challenge, NT-Response and name, to the outstanding challenge.
+// A Response's peer challenge, NT-Response and name, to the outstanding challenge. It is weighed in the same way whether its user
+// has an account or not: without one, by the first octets of the table. No account has a name of more than 256 octets.
+#[tactic(auto, using(crate::proofs::Findings::judging), unfolding(crate::specs::Verdict::judge_of))]
 pub fn judge(
     challenge: [u8; 16],
     peer: [u8; 16],
@@ -133,5 +51,12 @@ pub fn judge(
     ensures { result ≡ judge_of challenge peer response name.now table.now }
 {
     let user = mschap::user_part(name);
-    judge_user(challenge, peer, response, user, table)
+    let Ok(account) = accounts::look(table, user) else {
+        return Verdict::Malformed;
+    };
+    let Ok(exchange) = Exchange::new(challenge, peer, user) else {
+        return Verdict::Wrong;
+    };
+    let hash = octets::array_at::<16>(table, account.hash);
+    weigh(&exchange, account, hash, response)
 }

@@ -6,13 +6,20 @@ use mathlib.Core.Bool.{Bool, true, false, not}
 use lib.ListN.{length}
 use borrow.Author.Rules.{rules}
 use borrow.Author.Tests.{lt-ltb, le-ltb, le-leb, lt-leb}
+use mathlib.Core.Logic.{inl, inr}
+use Rattle.std.specs.Prelude.{Result, Err}
+use Rattle.std.specs.Result.{IsErrAnd}
+use Rattle.std.proofs.lemmas.Result.{err_from_is_err_and}
 use Rattle.octets.specs.Lists.{put, Appended}
 use Rattle.octets.proofs.Exits.{pick_true, pick_false, and_both, and_first, and_second}
 use Rattle.octets.proofs.Appends.{appended_front}
+use Rattle.answer.specs.declared.Refusal.{Refusal}
+use Rattle.answer.specs.Answer.{refusal_of}
+use Rattle.answer.specs.Results.{refusal_in, count_in}
 use Rattle.answer.specs.Sizes.{max_packet}
 use Rattle.answer.specs.Outcome.{outcome, refused, fitting, Does}
 use Rattle.answer.proofs.Outcomes.{does_by, does_written, does_not, fitting_so, fitting_not}
-use Rattle.writers.specs.Writers.{sends, writing}
+use Rattle.writers.specs.Writers.{sends, writing, HasRoom}
 
 nothing : (number k n : ℕ) (b : List ℕ) → k ≡ number → n ≡ 0 → Does (refused {S = Unit {0}} number tt) k n tt b b
 nothing number k n b e z = record { answered = e; count = z; left = refl; written = refl }
@@ -49,5 +56,14 @@ all_written formed l k n m q b after e i f s h r a =
     does_by _ _ _ _ _ _ _
     (record { answered = e; count = i ∙ w.0; left = refl; written = w.1 })
     (writing_so formed (length b) q f (rw s h) ∙ fitting_so (length b) tt (outcome 0 q tt) room)
+
+-- a refusal of check_room, as `?` passes it on
+pub no_place : (formed : Bool) (l : ℕ) (q b : List ℕ) (why : Refusal) (r : Result ℕ Refusal) → IsErrAnd r (λ e. e ≡ why) → formed ≡ true → length q ≡ l → HasRoom l (length b) (Err why) → Does (writing formed (length b) q) (refusal_in r) (count_in r) tt b b
+no_place formed l q b why r was f s h =
+    let p = err_from_is_err_and r was in
+    rw (p.1, p.2) (elim h [
+      | inl x ↦ too_long formed (length b) l (refusal_of why) 0 q b x.0 refl f s x.1
+      | inr x ↦ no_room formed l (refusal_of why) 0 q b x.0 refl f s x.1.0 x.1.1
+    ])
 
 pub ruleset writes = (rules, no_form, too_long, no_room, all_written, le-leb, lt-leb, and_both, and_first, and_second)

@@ -1,6 +1,8 @@
 -- What the stateless writers do, one for each row of the packet table. Arguments are the packet's, and then the room in the buffer.
-use Rattle.std.specs.Prelude.{ℕ, List, Bool, true, not, ◌&&◌, length, ltb, leb}
+use Rattle.std.specs.Prelude.{ℕ, ◌<◌, ◌≤◌, ◌≡◌, ◌⊎◌, List, Bool, true, not, ◌&&◌, length, ltb, leb, Result, Ok, Err}
 use Rattle.octets.specs.Choice.{pick}
+use Rattle.answer.specs.declared.Refusal.{Refusal}
+use Rattle.answer.specs.Answer.{refusal_of}
 use Rattle.answer.specs.Sizes.{max_packet, max_name}
 use Rattle.answer.specs.Outcome.{Outcome, outcome, refused, fitting}
 use Rattle.packet.specs.Forms.{challenge_packet, response_packet, success_request, failure_request, success_response, failure_response, eap_success, eap_failure}
@@ -15,6 +17,11 @@ writing formed room q =
     pick (not formed) (refused 23 tt)
     (pick (ltb max_packet (length q)) (refused 23 tt)
     (sends room q))
+
+-- the two last tests of a packet of l octets
+abbrev pub HasRoom : ℕ → ℕ → Result (Unit {0}) Refusal → Type 0
+HasRoom l room (Ok x) = (l ≤ max_packet) × (l ≤ room)
+HasRoom l room (Err why) = ((refusal_of why ≡ 23) × (max_packet < l)) ⊎ ((refusal_of why ≡ 20) × ((l ≤ max_packet) × (room < l)))
 
 -- a name of one octet or more
 abbrev pub write_challenge : ℕ → ℕ → List ℕ → List ℕ → ℕ → Outcome (Unit {0})

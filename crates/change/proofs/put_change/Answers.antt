@@ -1,4 +1,5 @@
 use Rattle.octets.proofs.Appends.{laid_more, laid_done}
+use Rattle.std.proofs.Common.{rules}
 use Rattle.change.proofs.Layouts.{laid_change}
 use Rattle.change.proofs.put_change.Goals as goal
 
@@ -11,4 +12,4 @@ returns c =
     (laid_more c.append-at-2.ensures
     (laid_more c.append-at.ensures
     (laid_more c.put_header-at.ensures
-    (laid_change _ _ _ _ _ _ c.requires.0 c.requires.1 c.requires.2 c.requires.3 _ c.requires.4)))))))
+    (laid_change _ _ _ _ _ _ (search rules) (search rules) (search rules) (search rules) _ c.requires)))))))

@@ -1,27 +1,43 @@
-use mathlib.Core.Path.{ap}
-use mathlib.Core.Bool.{not}
-use borrow.Author.Rules.{rules}
-use Rattle.change.proofs.Writes.{user_short, new_short, all_sent, sending}
+use Rattle.std.proofs.Common.{refl, ap, rules}
+use Rattle.answer.specs.Answer.{refusal_of}
+use Rattle.mschap.proofs.Responses.{password_hash_made, password_hash_refused}
+use Rattle.change.proofs.Writes.{long_user, long_old, long_new, other_filler, all_sized, not_changeable, passed_on, no_room, all_sent}
 use Rattle.change.proofs.write.Goals as goal
 
-pub returns-then-not-changeable : goal.returns-then-not-changeable
-returns-then-not-changeable c = search sending
+pub returns-in_err-exchange : goal.returns-in_err-exchange
+returns-in_err-exchange c =
+    let refused = c.in_err-exchange.ensures in
+    passed_on _ _ _ _ _ _ _ _ _ _ _ c.from_residual.ensures.1 (ap refusal_of refused.0) (long_user _ _ _ _ refused.1)
+
+pub returns-in_err-old_hash : goal.returns-in_err-old_hash
+returns-in_err-old_hash c =
+    let refused = password_hash_refused _ _ c.in_err-old_hash.ensures in
+    passed_on _ _ _ _ _ _ _ _ _ _ _ c.from_residual-in_err-old_hash.ensures.1 refused.0 (long_old _ _ _ _ refused.1)
+
+pub returns-in_err-hash : goal.returns-in_err-hash
+returns-in_err-hash c =
+    let refused = password_hash_refused _ _ c.in_err-hash.ensures in
+    passed_on _ _ _ _ _ _ _ _ _ _ _ c.from_residual-in_err-hash.ensures.1 refused.0 (long_new _ _ _ _ refused.1)
+
+pub returns-then-filler-ne-FILLER_OCTETS : goal.returns-then-filler-ne-FILLER_OCTETS
+returns-then-filler-ne-FILLER_OCTETS c = not_changeable _ _ _ _ _ _ _ _ _ 23 refl (other_filler _ _ _ _ c.if-filler-ne-FILLER_OCTETS.true)
 
 pub returns-then-reply-lt-CHANGE_OCTETS : goal.returns-then-reply-lt-CHANGE_OCTETS
-returns-then-reply-lt-CHANGE_OCTETS c = search sending
+returns-then-reply-lt-CHANGE_OCTETS c =
+    let old = password_hash_made _ _ c.in_ok-old_hash.ensures in
+    let new = password_hash_made _ _ c.in_ok-hash.ensures in
+    let sized = all_sized _ _ _ _ c.in_ok-exchange.ensures.3 old.1 new.1 c.if-filler-ne-FILLER_OCTETS.false in
+    no_room _ _ _ _ _ _ _ _ _ sized new.1 (search rules) c.if-reply-lt-CHANGE_OCTETS.true
 
-pub hash_of-was-requires : goal.hash_of-was-requires
-hash_of-was-requires c = search sending
-
-pub hash_of-hash-requires : goal.hash_of-hash-requires
-hash_of-hash-requires c = search sending
-
-pub send-requires : goal.send-requires
-send-requires c =
-    let e = c.changeable.ensures in
-    let n = ap not c.if-not-changeable.false in
-    (user_short _ _ _ _ _ e n, new_short _ _ _ _ _ e n, c.if-reply-lt-CHANGE_OCTETS.false)
+pub password_block-block-requires : goal.password_block-block-requires
+password_block-block-requires c = (password_hash_made _ _ c.in_ok-hash.ensures).1
 
 pub returns : goal.returns
 returns c =
-    all_sent _ _ _ _ _ _ _ _ _ _ c.changeable.ensures _ _ _ _ _ _ (ap not c.if-not-changeable.false) (search rules) c.if-reply-lt-CHANGE_OCTETS.false c.hash_of-was.ensures c.hash_of-hash.ensures c.send.ensures
+    let between = c.in_ok-exchange.ensures in
+    let response = c.nt_response-response.ensures in
+    let string = c.authenticator_string-string.ensures in
+    let old = password_hash_made _ _ c.in_ok-old_hash.ensures in
+    let new = password_hash_made _ _ c.in_ok-hash.ensures in
+    let sized = all_sized _ _ _ _ c.in_ok-exchange.ensures.3 old.1 new.1 c.if-filler-ne-FILLER_OCTETS.false in
+    all_sent _ _ _ _ _ _ _ _ _ sized new.1 (search rules) _ _ _ _ _ _ _ _ c.if-reply-lt-CHANGE_OCTETS.false old.0 new.0 c.password_block-block.ensures c.encrypted_hash-under.ensures (cc) (cc) c.put_change-n.ensures

@@ -1,22 +1,14 @@
-use Rattle.std.proofs.Common.{ap, not}
-use Rattle.accounts.proofs.Laying.{appends, append_ready}
+use Rattle.std.proofs.lemmas.Result.{err_from_is_err_and}
+use Rattle.accounts.proofs.Laying.{append_malformed, append_ready, append_grows}
 use Rattle.accounts.proofs.adding.append.Goals as goal
 
-pub returns-then-table-used : goal.returns-then-table-used
-returns-then-table-used c = search appends
-
-pub returns-then-not-is_table : goal.returns-then-not-is_table
-returns-then-not-is_table c = search appends
-
-pub returns-then-not-is_code : goal.returns-then-not-is_code
-returns-then-not-is_code c = search appends
-
-pub returns-then-name-gt-MAX_NAME : goal.returns-then-name-gt-MAX_NAME
-returns-then-name-gt-MAX_NAME c = search appends
+pub returns-in_err-look : goal.returns-in_err-look
+returns-in_err-look c =
+    let p = err_from_is_err_and c.from_residual.result c.from_residual.ensures.1 in
+    rw (p.1, p.2) (append_malformed _ _ _ _ _ c.if-table-used.false _ c.part.ensures _ c.in_err-look.ensures)
 
 pub grow-requires : goal.grow-requires
-grow-requires c =
-    append_ready _ _ _ _ _ _ c.if-table-used.false c.is_table.ensures (ap not c.if-not-is_table.false) c.is_code.ensures (ap not c.if-not-is_code.false) c.if-name-gt-MAX_NAME.false
+grow-requires c = append_ready _ c.args.hash _ _ _ c.if-table-used.false _ c.part.ensures _ c.in_ok-look.ensures _ c.is_code.ensures c.if-not-is_code.false c.if-name-gt-MAX_NAME.false
 
 pub returns : goal.returns
-returns c = search appends
+returns c = append_grows _ _ _ _ _ c.if-table-used.false _ c.part.ensures _ c.in_ok-look.ensures _ c.is_code.ensures c.if-not-is_code.false _ _ c.if-name-gt-MAX_NAME.false c.grow.ensures

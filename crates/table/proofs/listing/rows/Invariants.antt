@@ -1,9 +1,8 @@
--- Each account takes at least an octet.
-use Rattle.std.proofs.Common.{◌≤◌, ◌-◌, length}
+use Rattle.std.proofs.Common.{◌+◌, ◌≤◌, length}
 use Rattle.table.proofs.listing.rows.Given as goal
 
-abbrev pub invariant-loop-at : goal.invariant-loop-at
-invariant-loop-at l = l.n ≤ l.at
+abbrev pub invariant-loop-left : goal.invariant-loop-left
+invariant-loop-left l = l.n + length l.left ≤ length l.table
 
-abbrev pub decreases-loop-at : goal.decreases-loop-at
-decreases-loop-at l = length l.table - l.at
+abbrev pub decreases-loop-left : goal.decreases-loop-left
+decreases-loop-left l = length l.left
