@@ -81,7 +81,8 @@ fn grow(
     append_account(table, n, code, hash, name).ok_or(Refusal::NoRoom)
 }
 
-// Appends an account to the well-formed table that is the buffer's first octets, as many as are used. Gives the table's new
+// Appends an account to the well-formed table that is the buffer's first octets, as many as are used (C lends both, and names code, hash and
+// name one by one). Gives the table's new
 // length. A lookup tells whether it is well formed, so that what is linked has one walk that compares names and one that does not.
 #[tactic(auto, using(crate::proofs::Laying::appends))]
 pub fn append(

@@ -29,7 +29,7 @@ pub struct Account {
 // No account, as plain values, so that nothing waits for a test of whether there is one: no hash begins at the table's first octet.
 const NOBODY: Account = Account { code: 0, hash: 0 };
 
-// The account found before, or else this one if it is there.
+// The account found before, or else this one if it is there; no Option, as for NOBODY.
 #[tactic(auto, unfolding(octets::specs::Choice::pick))]
 fn choose(known: Account, here: bool, code: u16, hash: usize) -> Account
     ensures { result ≡ pick (not here) known (pick (eqb known.hash 0) (record { code = code; hash = hash }) known) }

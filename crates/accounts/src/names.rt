@@ -36,6 +36,7 @@ fn apart(x: u8, y: u8, bits: u8) -> u8
 }
 
 // Of eight octets each: 0 where the last are equal, as many as a name of `end` octets has there, and else 1.
+// By index: three slices go in step, and the mask from `end` on. A number and no bool: name_apart joins them by `|`, and branches on none.
 #[tactic(auto, using(crate::proofs::Compares::masks))]
 fn eight_apart(a: &[u8], b: &[u8], mask: &[u8], end: usize) -> usize
     requires { (length a.now ≡ 8) × (length b.now ≡ 8) × (mask.now ≡ name_mask) × (end ≤ 256) }
@@ -51,7 +52,7 @@ fn eight_apart(a: &[u8], b: &[u8], mask: &[u8], end: usize) -> usize
     1
 }
 
-// A user, and what a name is compared with: `laid` of it, and the mask.
+// A user, and what a name is compared with: `laid` of it, and the mask, arrays of fixed size that are lent.
 #[derive(Clone, Copy)]
 pub(crate) struct Sought<'a> {
     pub(crate) user: &'a [u8],
@@ -81,11 +82,10 @@ impl Sought<'_> {
         requires { (22 ≤ length item.now) × (length item.now ≤ 278) }
         ensures { eqb result 0 ≡ same (drop 22 item.now) (part self.now.own.now 8 (length item.now - 22)) }
     {
+        let n = item.len() - 22;
         let mut d = 0;
-        let mut end = item.len() - 22;
-        while 0 < end {
-            d |= self.end_apart(item, end);
-            end = end.saturating_sub(8);
+        for behind in (0..n).step_by(8) {
+            d |= self.end_apart(item, n - behind);
         }
         d
     }

@@ -79,8 +79,8 @@ fn first_record(left: &[u8]) -> Option<&[u8]>
 }
 
 // One walk, which goes on to the end of the table.
-// It carries the octets that are left and not a place, which saves an addition from one record to the next; a `for` has no items here, since a
-// record's length stands in its octets.
+// It carries the octets that are left and not a place, which saves an addition from one record to the next. No iterator over the
+// records: its item would be a Result, for a record that breaks its form, and the walk would test that once more, so it is no plainer.
 #[tactic(auto, using(crate::proofs::Walks::walks))]
 pub(crate) fn walk<V: Visit>(table: &[u8], start: V) -> Result<V, Refusal>
     ensures { result ≡ walked V.kept start table.now }

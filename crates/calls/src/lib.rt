@@ -1,6 +1,7 @@
 // The calls that C and Rust link, over slices alone: the sizes are tested, the state is decoded, the end moves, and the state is
 // encoded again. A refused call writes no octet; each answers with one word. A slice that is written is tested for its size: std's
 // `TryFrom` for `&mut [u8; N]` does not say that the slice holds afterwards what was written through the array.
+// `23` is the number of BadArgument: what is exported answers with one word, by the C interface.
 #![tactic(auto)]
 
 ghost use Rattle.std.specs.Prelude.{◌≡◌, [], ◌<◌, ◌≤◌, length, replicate};
@@ -232,6 +233,8 @@ fn give<const N: usize>(answer: Result<[u8; N], Refusal>, out: &mut [u8]) -> u64
     }
 }
 
+// A call each for the two digests, as for all that is exported: C's interface. The length of out is tested, and not converted: TryFrom for
+// `&mut` says nothing of the slice afterwards. So of a state.
 pub fn md4(message: &[u8], out: &mut [u8]) -> u64
     ensures { made result out.new ≡ md4_at message.now out.old }
 {

@@ -39,7 +39,8 @@ pub fn arg_count<R: Env>(rt: &R) -> usize
     usize::MAX
 }
 
-// An argument at the front of a buffer, and how many octets it has; or none, where it is missing or longer than the buffer.
+// An argument at the front of a buffer, and how many octets it has; or none, where it is missing or longer than the buffer. The buffer is
+// the caller's, since the programs keep fixed memory.
 pub fn arg<R: Env>(rt: &R, i: usize, buffer: &mut [u8]) -> Option<usize>
     ensures { IfSome result (λ n. n ≤ length buffer.new) }
 {
@@ -108,7 +109,7 @@ pub fn read_input<R: Input>(rt: &R, what: &[u8], buffer: &mut [u8]) -> Result<us
 
 // ---- complaints, on standard error
 
-// Words as they are.
+// Words as they are. What is complained of and what is said go to two descriptors, a line each.
 pub fn complain(text: &[u8])
     ensures { text.now ≡ text.now }
 {
@@ -143,12 +144,9 @@ impl fmt::Write for Text {
 
 // Where the system's number of an error begins in its text, or the end of the text.
 fn number_at(text: &[u8]) -> usize {
-    for at in 0..text.len() {
-        if octets::stands_at(text, at, b" (os error ") {
-            return at;
-        }
-    }
-    text.len()
+    (0..text.len())
+        .find(|at| octets::stands_at(text, *at, b" (os error "))
+        .unwrap_or(text.len())
 }
 
 // An error in words: the system's text where it has one, and not its number.

@@ -194,11 +194,7 @@ fn with_parity(n: u64) -> u8
 fn with_parities(w: u64) -> [u8; 8]
     ensures { result ≡ cells 8 (key_octet (bits_in 56 w)) }
 {
-    let mut out = [0u8; 8];
-    for i in 0..8 {
-        out[i] = with_parity((w >> (49 - 7 * i)) % 128);
-    }
-    out
+    std::array::from_fn(|i| with_parity((w >> (49 - 7 * i)) % 128))
 }
 
 // A key of seven octets as eight, each with its parity bit.

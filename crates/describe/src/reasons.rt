@@ -52,21 +52,17 @@ fn ms_length(out: &mut Screen, q: &[u8]) -> fmt::Result {
 
 // ---- 17
 
+fn outcome(success: bool) -> &'static str {
+    if success { "Success" } else { "Failure" }
+}
+
 fn eap_length(out: &mut Screen, l: usize, q: &[u8]) -> fmt::Result {
-    let kind = if octets::octet_is(q, 0, 3) {
-        "Success"
-    } else {
-        "Failure"
-    };
+    let kind = outcome(octets::octet_is(q, 0, 3));
     write!(out, "L of an EAP {kind} is {l}, not 4")
 }
 
 fn response_length(out: &mut Screen, l: usize, q: &[u8]) -> fmt::Result {
-    let kind = if octets::octet_is(q, 5, 3) {
-        "Success"
-    } else {
-        "Failure"
-    };
+    let kind = outcome(octets::octet_is(q, 5, 3));
     write!(out, "L of a {kind} Response is {l}, not 6")
 }
 

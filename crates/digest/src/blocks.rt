@@ -42,11 +42,7 @@ pub(crate) fn octets_of<const N: usize>(order: Order, ws: &[u32]) -> [u8; N]
     requires { N ≤ 4 * length ws.now }
     ensures { result ≡ cells N (octet_at order ws.now) }
 {
-    let mut out = [0u8; N];
-    for i in 0..N {
-        out[i] = octet_at(order, ws, i);
-    }
-    out
+    std::array::from_fn(|i| octet_at(order, ws, i))
 }
 
 // The word of four octets.
@@ -191,7 +187,7 @@ fn put_words<B, F: Fn(usize) -> u32>(b: &mut [u32; 16], word: F)
     requires { (j : ℕ) → j < 16 → F.pre word j }
     ensures { (length b.new ≡ 16) × ((j : ℕ) → j < 16 → F.post word j (slice_index b.new j)) }
 {
-    for j in 0..16 {
-        b[j] = word(j);
+    for (j, x) in b.iter_mut().enumerate() {
+        *x = word(j);
     }
 }

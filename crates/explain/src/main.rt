@@ -9,7 +9,7 @@ use std::rt::Files;
 
 mod lines;
 
-// What is wrong, and a hint.
+// What is wrong, and a hint. Each program has its own: in console it could state nothing that an edit breaks.
 fn complain(what: &[u8]) {
     console::complain(b"explain: ");
     console::complain(what);
@@ -67,11 +67,10 @@ fn input<R: Input>(rt: &R, end: End) {
 
 fn file<R: Env + Files>(rt: &R, end: End) {
     let mut path = io::buffer();
-    let n = console::arg(rt, 2, &mut path).unwrap_or(0);
-    if n == 0 {
+    let Some(n) = console::arg(rt, 2, &mut path).filter(|n| 0 < *n) else {
         complain(b"FILE is empty or too long");
         return;
-    }
+    };
     let mut space = [0u8; 262144];
     let file = console::read(rt, b"explain: FILE", &path[..n], &mut space);
     read(end, file, &space);

@@ -12,7 +12,7 @@ pub(crate) enum Unplayed {
     Table,
 }
 
-// What is wrong, and a hint.
+// What is wrong, and a hint. Each program has its own: in console it could state nothing that an edit breaks.
 pub(crate) fn complain(why: Unplayed) {
     match why {
         Unplayed::Argument(what) => {

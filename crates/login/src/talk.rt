@@ -22,7 +22,8 @@ pub(crate) struct Login<'a> {
     pub retries: u64,
 }
 
-// Both ends, and how many octets the packet has that is on its way to the peer: 0 once the talk is over.
+// Both ends, and how many octets the packet has that is on its way to the peer: 0 once the talk is over (no Option: an empty packet is
+// none, and so is a refused one).
 #[derive(Drop)]
 struct Ends {
     peer: Peer,
@@ -50,7 +51,7 @@ fn show(end: End, p: &[u8]) {
     console::say(b"\n");
 }
 
-// The reply that an answer wrote.
+// The reply that an answer wrote: a line, in vectors too.
 fn written(answer: Result<Reply, Refusal>, reply: &[u8]) -> &[u8] {
     octets::part(reply, 0, answer.map_or(0, |said| said.n))
 }
@@ -73,7 +74,7 @@ fn tell_text(text: Place, packet: &[u8]) {
         return;
     }
     console::say(b"peer, the server's text: ");
-    console::quoted(octets::part(packet, text.start, text.len));
+    console::quoted(text.of(packet));
     console::say(b"\n");
 }
 

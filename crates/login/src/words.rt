@@ -1,15 +1,11 @@
-// Answers and stages in words.
+// Answers and stages in words. No Display: answer, peer and server are linked from C, and print nothing.
 use answer::{Done, Refusal, Reply};
 
 pub(crate) fn answer(answer: Result<Reply, Refusal>) {
-    let (number, meaning) = match answer {
-        Ok(reply) => (u8::from(reply.done), done(reply.done)),
-        Err(why) => (u8::from(why), b"refused".as_slice()),
-    };
     console::say(b"answer ");
-    console::number(u64::from(number));
+    console::number(u64::from(answer::number(answer.map(|reply| reply.done))));
     console::say(b" (");
-    console::say(meaning);
+    console::say(answer.map_or(b"refused".as_slice(), |reply| done(reply.done)));
     console::say(b")");
 }
 

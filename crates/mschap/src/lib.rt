@@ -104,7 +104,7 @@ pub fn password_hash(units: &[u16]) -> Result<[u8; 16], Refusal>
 
 // ---- the user of a name
 
-// The place after the first backslash; 0 where there is none.
+// The place after the first backslash; 0 where there is none: no Option, since the definition user_start says 0 there.
 fn user_start(name: &[u8]) -> usize
     ensures { (result ≡ user_start name.now) × (result ≤ length name.now) }
 {

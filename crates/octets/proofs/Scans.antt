@@ -192,18 +192,23 @@ number_done {s} {acc} {i} p h = sym (p.is ∙ simp (drop_of_length-le s h))
 
 pub ruleset numbering = (rules, number_none, number_more, number_done)
 
--- ---- an array whose places a closure gives
-module _ {F : Type 0} (g : Mut F (ℕ × Unit {0}) ℕ) (h : ℕ → ℕ) (f : F) (pure : (i r : ℕ) (q : F) → Called g f (i, tt) r q → (q ≡ f) × (r ≡ h i)) where
-  each_from_fn : (f' : F) (ys : List ℕ) (i n k : ℕ) → f' ≡ f → IsFromFnResultFrom g f' ys i n → k < n → get_or ys (i + k) 0 ≡ h (i + k)
-  each_from_fn f' ys i zero k e p l = absurd (omega arith)
-  each_from_fn f' ys i (suc n) zero e p l =
+-- ---- an array whose places a closure gives, each below m
+module _ {F : Type 0} (g : Mut F (ℕ × Unit {0}) ℕ) (h : ℕ → ℕ) (f : F) (m : ℕ) (pure : (i r : ℕ) (q : F) → i < m → Called g f (i, tt) r q → (q ≡ f) × (r ≡ h i)) where
+  each_from_fn : (f' : F) (ys : List ℕ) (i n k : ℕ) → f' ≡ f → i + n ≤ m → IsFromFnResultFrom g f' ys i n → k < n → get_or ys (i + k) 0 ≡ h (i + k)
+  each_from_fn f' ys i zero k e b p l = absurd (omega arith)
+  each_from_fn f' ys i (suc n) zero e b p l =
       let z : i + 0 ≡ i = omega arith in
-      rw z (p.2.1 0 ∙ (pure i p.1 p.0 (rw e at p.3)).1)
-  each_from_fn f' ys i (suc n) (suc k) e p l =
+      rw z (p.2.1 0 ∙ (pure i p.1 p.0 (omega arith) (rw e at p.3)).1)
+  each_from_fn f' ys i (suc n) (suc k) e b p l =
       let z : i + suc k ≡ i + 1 + k = omega arith in
-      rw z (each_from_fn p.0 ys (i + 1) n k (pure i p.1 p.0 (rw e at p.3)).0 p.4 (omega arith))
+      rw z (each_from_fn p.0 ys (i + 1) n k (pure i p.1 p.0 (omega arith) (rw e at p.3)).0 (omega arith) p.4 (omega arith))
 
-  pub cells_from_fn : (ys : List ℕ) (n : ℕ) → IsFromFnResult g f ys n → ys ≡ cells n h
-  cells_from_fn ys n p =
+  pub cells_below : (ys : List ℕ) (n : ℕ) → n ≤ m → IsFromFnResult g f ys n → ys ≡ cells n h
+  cells_below ys n b p =
       ext_get_or 0 ys (cells n h) (p.long ∙ sym (length_cells n h))
-      (λ k l. let z : 0 + k ≡ k = omega arith in rw z at (each_from_fn f ys 0 n k refl p.each (omega (arith, p.long))) ∙ sym (get_or_cells n h k (omega (arith, p.long))))
+      (λ k l. let z : 0 + k ≡ k = omega arith in rw z at (each_from_fn f ys 0 n k refl (omega arith) p.each (omega (arith, p.long))) ∙ sym (get_or_cells n h k (omega (arith, p.long))))
+
+-- and one that gives each place, whatever it is
+module _ {F : Type 0} (g : Mut F (ℕ × Unit {0}) ℕ) (h : ℕ → ℕ) (f : F) (pure : (i r : ℕ) (q : F) → Called g f (i, tt) r q → (q ≡ f) × (r ≡ h i)) where
+  pub cells_from_fn : (ys : List ℕ) (n : ℕ) → IsFromFnResult g f ys n → ys ≡ cells n h
+  cells_from_fn ys n p = cells_below g h f n (λ i r q l. pure i r q) ys n (omega arith) p

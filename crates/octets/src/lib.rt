@@ -12,7 +12,8 @@ pub enum Order {
     Big,
 }
 
-// The octet at i, and 0 past the end.
+// The octet at i, and 0 past the end: no Option, since it is the definition `get_or`, which is total. Slice and place are two arguments here
+// and below: `rest` gives the slice from a place on, and the others are said of it.
 pub fn octet(p: &[u8], i: usize) -> u8
     ensures { result ≡ get_or p.now i 0 }
 {
@@ -54,6 +55,7 @@ fn end_of(dst: &[u8], i: usize, n: usize) -> Option<usize>
 }
 
 // Copies src over a slice of its length. For `copy_from_slice` the archive would call C's memmove too, and it calls memcpy and memset alone.
+// By index: after `iter_mut().zip(src)` a proof knows the length of dst alone, so the clause did not close.
 fn copy(dst: &mut [u8], src: &[u8])
     requires { length dst.old ≡ length src.now }
     ensures { dst.new ≡ src.now }
@@ -84,6 +86,8 @@ pub fn fill(dst: &mut [u8], src: &[u8])
 // Copies src into dst from i, and gives the place after it; where it does not fit, dst stays as it is and i comes back.
 // The slice and the place stay two arguments: a cursor over both would say the same `Appended` of its fields, and each writer would
 // make one of its slice and hand out its place, so it is no plainer.
+// No Option here, in append_hex and in append_decimal: that i comes back where it does not fit is said by the clause `Appended`, which
+// theorems of accounts, state and writers name.
 pub fn append(dst: &mut [u8], i: usize, src: &[u8]) -> usize
     ensures { Appended dst.old i src.now result dst.new }
 {
@@ -139,7 +143,7 @@ pub fn number_at(order: Order, p: &[u8], i: usize) -> usize
     pair_of(order, octet(t, 0), octet(t, 1))
 }
 
-// Whether x is a hex digit: A to F, and a to f where either case is taken.
+// Whether x is a hex digit: A to F, and a to f where either case is taken, which std's test takes always.
 #[tactic(auto, using(crate::proofs::Exits::exits), unfolding(crate::specs::Octets::is_hex))]
 fn is_hex(either: bool, x: u8) -> bool
     ensures { result ≡ is_hex either x }
@@ -167,7 +171,7 @@ pub fn hex_stands(either: bool, p: &[u8], i: usize, n: usize) -> bool
     n <= t.len() && all_hex(either, t)
 }
 
-// The value of a hex digit of either case; 0 for any other octet.
+// The value of a hex digit of either case; 0 for any other octet: no Option, since it is the definition `hex_value`, which is total.
 #[tactic(auto, using(crate::proofs::Exits::exits), unfolding(crate::specs::Octets::hex_value))]
 fn hex_value(x: u8) -> u8
     ensures { (result ≡ hex_value x) × (result < 16) }
@@ -254,7 +258,7 @@ fn digit_value(x: u8) -> u64
     u64::from(x.saturating_sub(b'0'))
 }
 
-// The number of at most ten digits, and 0 for more.
+// The number of at most ten digits, and 0 for more: no Option, since it is the definition `number`, which is total.
 #[tactic(auto, using(crate::proofs::Exits::exits, crate::proofs::Scans::numbering), unfolding(crate::specs::Octets::number))]
 pub fn number_of(s: &[u8]) -> u64
     ensures { result ≡ number s.now }
@@ -269,7 +273,7 @@ pub fn number_of(s: &[u8]) -> u64
     acc
 }
 
-// The decimal digits of n, at the end of ten octets.
+// The decimal digits of n, at the end of ten octets. By index, since the slice from i on is handed out.
 #[tactic(auto, using(crate::proofs::Decimals::spelling))]
 fn decimal_of(n: u64, space: &mut [u8; 10]) -> &[u8]
     ensures { result.now ≡ decimal n }

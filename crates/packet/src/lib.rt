@@ -164,33 +164,23 @@ fn form(holds: bool) -> Result<(), Refusal>
     ensure(holds, Refusal::BadForm)
 }
 
-// A packet with an Identifier and no parts.
-fn bare_packet(kind: Kind, q: &[u8]) -> Packet
-    ensures { result ≡ reading kind (get_or q.now 1 0) 0 (length q.now) 0 nowhere nowhere nowhere }
-{
-    Packet {
-        kind,
-        id: Identifier(octets::octet(q, 1)),
-        chapid: ChapId(0),
-        length: q.len(),
-        error: 0,
-        challenge: NOWHERE,
-        response: NOWHERE,
-        tail: NOWHERE,
-    }
-}
-
-// A packet with an MS-CHAPv2-ID, whose name or text goes from tail to L.
+// A packet with an MS-CHAPv2-ID, whose name or text goes from tail to L. All fields are written here and in read_bare: of a packet made from
+// another the compiler copies both.
 fn chap_packet(kind: Kind, q: &[u8], tail: usize) -> Packet
     ensures { result ≡ reading kind (get_or q.now 1 0) (get_or q.now 6 0) (length q.now) 0 nowhere nowhere (place tail (length (drop tail q.now))) }
 {
     Packet {
+        kind,
+        id: Identifier(octets::octet(q, 1)),
         chapid: ChapId(octets::octet(q, 6)),
+        length: q.len(),
+        error: 0,
+        challenge: NOWHERE,
+        response: NOWHERE,
         tail: Place {
             start: tail,
             len: octets::rest(q, tail).len(),
         },
-        ..bare_packet(kind, q)
     }
 }
 
@@ -363,7 +353,16 @@ fn read_bare(kind: Kind, l: usize, q: &[u8]) -> Result<Packet, Refusal>
     ensures { told_reading result ≡ read_bare kind l q.now }
 {
     form(q.len() == l)?;
-    Ok(bare_packet(kind, q))
+    Ok(Packet {
+        kind,
+        id: Identifier(octets::octet(q, 1)),
+        chapid: ChapId(0),
+        length: q.len(),
+        error: 0,
+        challenge: NOWHERE,
+        response: NOWHERE,
+        tail: NOWHERE,
+    })
 }
 
 // The OpCode, of Type 26.

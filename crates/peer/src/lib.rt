@@ -193,6 +193,7 @@ fn turn_of(stage: Stage, kind: Kind, same: bool, known: bool) -> Move
 fn turn_in(stage: Stage, x: Received, last: &[u8]) -> Move
     ensures { result ≡ turn_in stage x.entry.packet x.entry.octets.now last.now }
 {
+    // `equal`, since it is the definition `same`
     let same = octets::equal(x.octets, last);
     let known = octets::octet_is(last, 1, x.packet.id.0);
     turn_of(stage, x.packet.kind, same, known)

@@ -64,6 +64,7 @@ pub fn encipher(key: [u8; 16], m: &mut [u8])
         s: schedule(key),
         j: 0,
     };
+    // RC4's own counter, which wraps
     let mut i: u8 = 0;
     for x in m.iter_mut() {
         i = i.wrapping_add(1);

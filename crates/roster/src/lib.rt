@@ -42,7 +42,7 @@ pub struct Entry {
 }
 
 // What was made of a text: what is wrong with the last line that was read, if anything, how many lines were read, and how long the
-// table is.
+// table is. A struct around the Result: lines and length are given on a fault too. A length, since the table is in a lent buffer.
 #[derive(Clone, Copy)]
 pub struct Made {
     pub ended: Result<(), LineError>,
@@ -222,7 +222,8 @@ pub fn make(table: &mut [u8], text: &[u8]) -> Made
     let mut lines = 0;
     let mut len = 0;
     let mut left = text;
-    // no `split`: after the last newline it has one line more, an empty one, and lines are counted
+    // no `split`: after the last newline it has one line more, an empty one, and lines are counted; `split_inclusive` has not, but keeps
+    // the newline in each piece, which would be cut off again
     while 0 < left.len() {
         lines += 1;
         match take_line(table, len, trim(field_before(left, 10))) {

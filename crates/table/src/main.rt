@@ -3,12 +3,14 @@
 
 ghost use Rattle.std.specs.Prelude.{◌≤◌, IfSome};
 
+use making::Making;
+
 mod listing;
 mod making;
 mod saving;
 mod warning;
 
-// What is wrong, and a hint.
+// What is wrong, and a hint. Each program has its own: in console it could state nothing that an edit breaks.
 fn complain(what: &[u8]) {
     console::complain(b"table: ");
     console::complain(what);
@@ -86,7 +88,16 @@ fn make(rt: &HostRuntime, count: usize) {
         return;
     };
     if let Some(hashes) = hashes_at(rt, 4, count) {
-        making::make(rt, &lines[..n], &table[..m], hashes);
+        let lines = &lines[..n];
+        let path = &table[..m];
+        making::make(
+            rt,
+            Making {
+                lines,
+                path,
+                hashes,
+            },
+        );
     }
 }
 

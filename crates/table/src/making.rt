@@ -3,6 +3,7 @@ use super::{listing, saving, warning};
 use roster::LineError;
 use saving::SaveError;
 
+// What this program says of it; a Display would need a writer on standard error, which has octets alone.
 fn words(why: LineError) -> &'static [u8] {
     match why {
         LineError::NoPassword => b"there is no tab after the name",
@@ -19,19 +20,23 @@ fn words(why: LineError) -> &'static [u8] {
 }
 
 fn refuse(why: LineError, number: usize) {
-    console::complain(b"table: line ");
-    console::complain_number(number as u64);
-    console::complain(b": ");
-    console::complain(words(why));
-    console::complain(b"\n");
+    warning::warn(number, words(why));
     console::say(b"failed: line ");
     console::number(number as u64);
     console::say(b" is wrong; nothing was written\n");
 }
 
-fn finish(rt: &HostRuntime, lines: &[u8], path: &[u8], table: &[u8], hashes: bool) {
-    match saving::write(rt, lines, path, table) {
-        Ok(()) => listing::rows(table, hashes),
+// The paths of the lines and of the table, and whether the hashes are listed too.
+#[derive(Clone, Copy)]
+pub(crate) struct Making<'a> {
+    pub lines: &'a [u8],
+    pub path: &'a [u8],
+    pub hashes: bool,
+}
+
+fn finish(rt: &HostRuntime, making: Making, table: &[u8]) {
+    match saving::write(rt, making.lines, making.path, table) {
+        Ok(()) => listing::rows(table, making.hashes),
         Err(SaveError::Nothing) => console::ended_badly(b"nothing was written"),
         Err(SaveError::Unsettled) => {
             console::ended_badly(b"TABLE was replaced, but a crash may undo that")
@@ -39,7 +44,7 @@ fn finish(rt: &HostRuntime, lines: &[u8], path: &[u8], table: &[u8], hashes: boo
     }
 }
 
-fn convert(rt: &HostRuntime, text: &[u8], lines: &[u8], path: &[u8], hashes: bool) {
+fn convert(rt: &HostRuntime, making: Making, text: &[u8]) {
     let mut table = [0u8; 65536];
     let made = roster::make(&mut table, text);
     if let Err(why) = made.ended {
@@ -48,7 +53,7 @@ fn convert(rt: &HostRuntime, text: &[u8], lines: &[u8], path: &[u8], hashes: boo
     }
     let table = octets::part(&table, 0, made.len);
     warning::lines(table, text);
-    finish(rt, lines, path, table, hashes);
+    finish(rt, making, table);
 }
 
 // A text without the byte order mark at its front.
@@ -60,19 +65,19 @@ fn unmarked(text: &[u8]) -> &[u8] {
     octets::rest(text, 3)
 }
 
-fn read(rt: &HostRuntime, text: &[u8], lines: &[u8], path: &[u8], hashes: bool) {
+fn read(rt: &HostRuntime, making: Making, text: &[u8]) {
     if text.len() == 262144 {
         console::complain(b"table: LINES has 262,144 octets or more\n");
         console::ended_badly(b"nothing was written");
         return;
     }
-    convert(rt, unmarked(text), lines, path, hashes);
+    convert(rt, making, unmarked(text));
 }
 
-pub(crate) fn make(rt: &HostRuntime, lines: &[u8], path: &[u8], hashes: bool) {
+pub(crate) fn make(rt: &HostRuntime, making: Making) {
     let mut text = [0u8; 262144];
-    match console::read(rt, b"table: LINES", lines, &mut text) {
-        Ok(n) => read(rt, octets::part(&text, 0, n), lines, path, hashes),
+    match console::read(rt, b"table: LINES", making.lines, &mut text) {
+        Ok(n) => read(rt, making, octets::part(&text, 0, n)),
         Err(_) => console::ended_badly(b"nothing was written"),
     }
 }

@@ -12,16 +12,14 @@ pub(crate) enum SaveError {
     Unsettled,
 }
 
-// What could not be done before anything was replaced is said, with the cause.
-fn nothing(what: &[u8], cause: Error) -> SaveError {
+// Says what could not be done, with the cause.
+fn failed(error: SaveError, what: &[u8], cause: Error) -> SaveError {
     console::fail(what, cause);
-    SaveError::Nothing
+    error
 }
 
-// The same once the table is in its place.
-fn unsettled(what: &[u8], cause: Error) -> SaveError {
-    console::fail(what, cause);
-    SaveError::Unsettled
+fn nothing(what: &[u8], cause: Error) -> SaveError {
+    failed(SaveError::Nothing, what, cause)
 }
 
 // ---- what stands at a path, of which the first 4,095 octets are looked at
@@ -78,7 +76,8 @@ fn keep(file: &File, old: Option<&Metadata>) -> Result<(), SaveError> {
         .map_err(|cause| nothing(b"table: the mode of TABLE cannot be kept", cause))
 }
 
-// The octets reach the disk before the file gets its name.
+// The octets reach the disk before the file gets its name. table and old go apart: a struct that holds both references has no proof where
+// the old file's is made.
 fn fill(file: &mut File, table: &[u8], old: Option<&Metadata>) -> Result<(), SaveError> {
     file.write_all(table)
         .map_err(|cause| nothing(b"table: TABLE cannot be written", cause))?;
@@ -171,13 +170,15 @@ fn open_folder(rt: &HostRuntime, path: &[u8]) -> io::Result<File> {
 // The folder, with the file's new name in it, reaches the disk.
 fn settle(rt: &HostRuntime, path: &[u8]) -> Result<(), SaveError> {
     let folder = open_folder(rt, path).map_err(|cause| {
-        unsettled(
+        failed(
+            SaveError::Unsettled,
             b"table: TABLE was replaced, but its folder cannot be opened",
             cause,
         )
     })?;
     folder.sync_all().map_err(|cause| {
-        unsettled(
+        failed(
+            SaveError::Unsettled,
             b"table: TABLE was replaced, but its folder cannot be written",
             cause,
         )
@@ -197,8 +198,9 @@ fn save(
 ) -> Result<(), SaveError> {
     make(rt, name, table, old)?;
     if let Err(cause) = rename(rt, name, path) {
+        let error = nothing(b"table: TABLE cannot be written", cause);
         unlink(rt, name);
-        return Err(nothing(b"table: TABLE cannot be written", cause));
+        return Err(error);
     }
     settle(rt, path)
 }

@@ -4,7 +4,8 @@ const EMPTY: [u8; 16] = [
     0x31, 0xD6, 0xCF, 0xE0, 0xD1, 0x6A, 0xE9, 0x31, 0xB7, 0x3C, 0x59, 0xD7, 0xE0, 0xC0, 0x89, 0xC0,
 ];
 
-fn warn(number: usize, what: &[u8]) {
+// A line that is odd or wrong.
+pub(crate) fn warn(number: usize, what: &[u8]) {
     console::complain(b"table: line ");
     console::complain_number(number as u64);
     console::complain(b": ");
@@ -34,7 +35,7 @@ fn account(table: &[u8], place: usize, number: usize, name: &[u8], hash: [u8; 16
             b"the name has a backslash: a Response with this name is one of the user after the backslash, and does not find this account",
         );
     }
-    if octets::equal(&hash, &EMPTY) {
+    if hash == EMPTY {
         warn(number, b"the password is empty");
     }
 }

@@ -1,4 +1,4 @@
-// md4 MESSAGE, sha1 MESSAGE
+// md4 MESSAGE, sha1 MESSAGE. No closure for the digest: each is two lines over tell_made.
 use super::script;
 use std::io;
 use std::io::Print;

@@ -14,18 +14,19 @@ pub(crate) struct Ends {
     server: Server,
 }
 
-fn number_of(answer: Result<Reply, Refusal>) -> u8 {
-    match answer {
-        Ok(reply) => u8::from(reply.done),
-        Err(why) => u8::from(why),
-    }
+// A line for an answer: its number, and what it wrote.
+fn tell(
+    rt: &impl Print,
+    name: &[u8],
+    answer: Result<Reply, Refusal>,
+    reply: &[u8],
+) -> io::Result<()> {
+    let written = octets::part(reply, 0, answer.map_or(0, |said| said.n));
+    script::tell(rt, name, number_of(answer), written)
 }
 
-fn written(answer: Result<Reply, Refusal>, reply: &[u8]) -> &[u8] {
-    match answer {
-        Ok(said) => octets::part(reply, 0, said.n),
-        Err(_) => &[],
-    }
+fn number_of(answer: Result<Reply, Refusal>) -> u8 {
+    answer::number(answer.map(|reply| reply.done))
 }
 
 impl Ends {
@@ -44,12 +45,7 @@ impl Ends {
         reply: &[u8],
     ) -> io::Result<()> {
         self.peer = done.peer;
-        script::tell(
-            rt,
-            name,
-            number_of(done.answer),
-            written(done.answer, reply),
-        )
+        tell(rt, name, done.answer, reply)
     }
 
     fn after_server(
@@ -60,12 +56,7 @@ impl Ends {
         reply: &[u8],
     ) -> io::Result<()> {
         self.server = done.server;
-        script::tell(
-            rt,
-            name,
-            number_of(done.answer),
-            written(done.answer, reply),
-        )
+        tell(rt, name, done.answer, reply)
     }
 
     pub(crate) fn make_peer(&mut self, rt: &impl Print, line: &[u8]) -> io::Result<()> {
@@ -88,7 +79,7 @@ impl Ends {
         if text.len == 0 {
             return Ok(());
         }
-        let told = octets::part(octets::part(&packet, 0, n), text.start, text.len);
+        let told = text.of(octets::part(&packet, 0, n));
         script::tell(rt, b"text", number_of(done.answer), told)
     }
 

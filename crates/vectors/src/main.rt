@@ -53,7 +53,7 @@ fn read_full(input: &mut impl Read, space: &mut [u8]) -> io::Result<usize>
     ensures { IfOk result (λ n. n ≤ length space.new) }
 {
     let mut n = 0;
-    // no `for`: n grows by what a read gives
+    // no `for`: n grows by what a read gives; console's own complains where this passes the error on
     while n < space.len() {
         let got = input.read(&mut space[n..])?;
         if got == 0 {

@@ -9,7 +9,7 @@ use accounts::Account;
 use mschap::Exchange;
 
 // Malformed says it of the table, the others of a Response. What is Right comes with the account's code and the authenticator
-// string's octets.
+// string's octets. No Result with an Option in it: these are the three marks that `due_of` and the statement `Judges` tell apart.
 #[derive(Clone, Copy)]
 pub enum Verdict {
     Malformed,
@@ -24,6 +24,7 @@ fn weigh(exchange: &Exchange, account: Account, hash: [u8; 16], response: [u8; 2
     ensures { result ≡ weighed (not (eqb account.hash 0)) account.code hash exchange.now.authenticator exchange.now.peer response exchange.now.user.now }
 {
     let own = exchange.nt_response(hash);
+    // every octet is looked at; `==` may stop at the first that differs
     let computed = octets::equal(&own, &response);
     if !computed {
         return Verdict::Wrong;

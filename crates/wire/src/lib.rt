@@ -1,4 +1,5 @@
 // The reader and the stateless writers over slices alone, as C and Rust link them. Each answers with one word.
+// `23` is the number of BadArgument: what is exported answers with one word, by the C interface.
 #![tactic(auto)]
 
 ghost use Rattle.std.specs.Prelude.{◌≡◌, length};

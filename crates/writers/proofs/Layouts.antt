@@ -8,7 +8,6 @@ use Rattle.octets.specs.Lists.{cells}
 use Rattle.octets.specs.Octets.{hex_at, decimal}
 use Rattle.octets.proofs.Lists.{length_cells}
 use Rattle.octets.proofs.Appends.{Laid, laid_none}
-use Rattle.answer.specs.Sizes.{max_packet, max_name}
 use Rattle.packet.proofs.Sizes.{length_chap_packet}
 use Rattle.packet.specs.Forms.{challenge_name_at, response_name_at, success_text_at, word_s, word_e, word_r, word_c, word_v, word_m, eight_zeros, success_message, failure_message, header, chap_packet, challenge_packet, response_packet, success_request, failure_request}
 
@@ -22,10 +21,6 @@ pub laid_challenge : (id chapid : ℕ) (challenge name old : List ℕ) → lengt
 unfolding challenge_packet
 laid_challenge id chapid challenge name old e h =
     laid_body 1 1 id chapid (challenge_name_at + length name) (16 ∷ (challenge ++ name)) old (omega (arith, length-append challenge name)) h
-
--- a name of at most 256 octets keeps L within 1,020
-pub name_fits : (n : ℕ) → n ≤ max_name → response_name_at + n ≤ max_packet
-name_fits n h = omega arith
 
 pub laid_response : (id chapid : ℕ) (peer response name old : List ℕ) → length peer ≡ 16 → length response ≡ 24 → response_name_at + length name ≤ length old → Laid (response_packet id chapid peer response name) old 0 old (header 2 2 id chapid (response_name_at + length name) ++ ((49 ∷ []) ++ (peer ++ (eight_zeros ++ (response ++ ((0 ∷ []) ++ name))))))
 unfolding response_packet

@@ -51,6 +51,7 @@ fn write_whole(q: &[u8], out: &mut [u8]) -> Result<usize, Refusal>
     send(q, out)
 }
 
+// Here and below the slice and the place in it (`at`) are two values, as octets' append has them.
 // The first nine octets of a packet of L octets with an MS-CHAPv2-ID.
 #[tactic(auto, unfolding(packet::specs::Forms::header))]
 pub fn put_header(code: u8, op: u8, ids: Ids, l: u16, out: &mut [u8]) -> usize

@@ -1,9 +1,8 @@
-use Rattle.std.proofs.lemmas.List.{length-replicate}
-use Rattle.octets.proofs.Loops.{fill_none, filling}
+use native.Mathlib.Omega.{arith}
+use Rattle.std.proofs.Common.{rules}
+use Rattle.octets.proofs.Scans.{cells_below}
+use Rattle.digest.specs.Blocks.{octet_at}
 use Rattle.digest.proofs.blocks.octets_of.Goals as goal
 
-pub loop-i-init : goal.loop-i-init
-loop-i-init g c = fill_none (length-replicate _ _)
-
-pub loop-i-preserved : goal.loop-i-preserved
-loop-i-preserved g c = search filling
+pub returns : goal.returns
+returns g c = cells_below _ (octet_at c.args.order c.args.ws.now) _ g.row.N (λ i r q l k. search rules) _ g.row.N (omega arith) c.from_fn.ensures.items

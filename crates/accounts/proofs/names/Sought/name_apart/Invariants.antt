@@ -1,8 +1,6 @@
+use Rattle.std.proofs.Common.{◌-◌}
 use Rattle.accounts.proofs.Compares.{Ended}
 use Rattle.accounts.proofs.names.Sought.name_apart.Given as goal
 
-abbrev pub invariant-loop-end : goal.invariant-loop-end
-invariant-loop-end l = Ended l.item l.self.own.now l.d l.end
-
-abbrev pub decreases-loop-end : goal.decreases-loop-end
-decreases-loop-end l = l.end
+abbrev pub invariant-loop-behind : goal.invariant-loop-behind
+invariant-loop-behind l = Ended l.item l.self.own.now l.d (l.n - l.behind)
