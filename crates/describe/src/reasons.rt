@@ -201,8 +201,28 @@ fn reason(out: &mut Screen, fault: Fault, p: &[u8]) -> fmt::Result {
     }
 }
 
+// In document 01's words. No Display for Fault: it would be public, and state nothing that an edit breaks.
+fn meaning(fault: Fault) -> &'static str {
+    match fault {
+        Fault::FewerThanFour => "fewer than 4 octets lent",
+        Fault::LengthUnderFour | Fault::LengthOverLent => "L under 4 or over the octets lent",
+        Fault::LengthOverMost => "L over 1,020",
+        Fault::Code => "Code not for this end",
+        Fault::NoType | Fault::OtherType => "Code 1 or 2 and no Type octet, or Type not 26",
+        Fault::NoOpCode | Fault::OtherOpCode => "no OpCode, or not one of the table for that Code",
+        Fault::LengthUnderNine | Fault::MsLength => "L under 9, or MS-Length not L - 5",
+        Fault::EapLength
+        | Fault::ResponseLength
+        | Fault::Challenge(_)
+        | Fault::Response(_)
+        | Fault::Success(_)
+        | Fault::Failure(_) => "the rest breaks its form",
+    }
+}
+
 pub(crate) fn refused(out: &mut Screen, fault: Fault, p: &[u8]) -> fmt::Result {
-    write!(out, "refused with {}, {fault}: ", u16::from(fault) / 100)?;
+    let number = u16::from(fault) / 100;
+    write!(out, "refused with {number}, {}: ", meaning(fault))?;
     reason(out, fault, p)?;
     writeln!(out)
 }

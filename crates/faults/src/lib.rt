@@ -10,7 +10,6 @@ ghost use Rattle.faults.specs.Faults.{challenge_fault, response_fault, success_f
 
 use octets::Order;
 use packet::{End, ensure};
-use std::fmt;
 
 // Of a Challenge.
 #[derive(Clone, Copy, PartialEq, Eq)]
@@ -152,29 +151,6 @@ impl From<Fault> for u16 {
             Fault::Success(form) => u16::from(form),
             Fault::Failure(form) => u16::from(form),
         }
-    }
-}
-
-// The condition that is broken, in document 01's words.
-impl fmt::Display for Fault {
-    fn fmt<W: fmt::Write>(&self, f: &mut fmt::Formatter<W>) -> fmt::Result {
-        f.write_str(match self {
-            Fault::FewerThanFour => "fewer than 4 octets lent",
-            Fault::LengthUnderFour | Fault::LengthOverLent => "L under 4 or over the octets lent",
-            Fault::LengthOverMost => "L over 1,020",
-            Fault::Code => "Code not for this end",
-            Fault::NoType | Fault::OtherType => "Code 1 or 2 and no Type octet, or Type not 26",
-            Fault::NoOpCode | Fault::OtherOpCode => {
-                "no OpCode, or not one of the table for that Code"
-            }
-            Fault::LengthUnderNine | Fault::MsLength => "L under 9, or MS-Length not L - 5",
-            Fault::EapLength
-            | Fault::ResponseLength
-            | Fault::Challenge(_)
-            | Fault::Response(_)
-            | Fault::Success(_)
-            | Fault::Failure(_) => "the rest breaks its form",
-        })
     }
 }
 
