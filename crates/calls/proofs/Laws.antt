@@ -2,7 +2,7 @@
 use Prim.Native.Nat.{ℕ, ◌+◌, ◌-◌, ◌*◌, ◌/◌, ◌%◌, ◌≤◌, ◌<◌}
 use native.Mathlib.Omega.{arith}
 use mathlib.Core.Path.{◌≡◌, refl, sym, ap, ◌∙◌}
-use mathlib.Core.List.{List, []}
+use mathlib.Core.List.{List, [], ◌∷◌}
 use mathlib.Core.Bool.{Bool, true, false}
 use lib.ListN.{length, get_or, drop, take}
 use lib.Seq.{length-take-le, get_or-take, get_or-drop, ext_get_or}
@@ -173,13 +173,9 @@ unfolding wrote
 append_wrote buffer after own hash name used code w r d e f = rw (f, ← e, d.answered, d.count, d.written)
 
 -- two octets, the low one first
-pub unit_read : (s octets : List ℕ) (at n : ℕ) → octets ≡ sized 2 (drop at s) → n ≡ from_le_bytes w16 octets → n ≡ number_at Little s at
+pub unit_read : (s : List ℕ) (at low high n : ℕ) → low ≡ get_or s at 0 → high ≡ get_or s (at + 1) 0 → n ≡ from_le_bytes w16 (low ∷ high ∷ []) → n ≡ number_at Little s at
 unfolding number_at
-unit_read s octets at n e f =
-    let low : get_or octets 0 0 ≡ get_or s (at + 0) 0 = rw e (get_or_sized 2 (drop at s) 0 (omega arith) ∙ get_or-drop at s 0 0) in
-    let high : get_or octets 1 0 ≡ get_or s (at + 1) 0 = rw e (get_or_sized 2 (drop at s) 1 (omega arith) ∙ get_or-drop at s 1 0) in
-    let none : at + 0 ≡ at = omega arith in
-    f ∙ rw (low, high, none) (omega arith)
+unit_read s at low high n e f g = g ∙ rw (e, f) (omega arith)
 
 -- the units that an array of 256 has at its front
 units_front : (s units : List ℕ) (n : ℕ) → units ≡ cells 256 (unit_at s) → n ≡ length s / 2 → length s ≤ 512 → take n units ≡ units_of s

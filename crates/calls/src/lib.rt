@@ -258,7 +258,7 @@ fn unit_at(s: &[u8], k: usize) -> u16
     requires { k < 256 }
     ensures { result ≡ unit_at s.now k }
 {
-    u16::from_le_bytes(octets::array_at(s, k * 2))
+    u16::from_le_bytes([octets::octet(s, k * 2), octets::octet(s, k * 2 + 1)])
 }
 
 // The password's UTF-16 units come as octets, the low octet of each first.

@@ -232,14 +232,21 @@ pub fn write(
     ensures { Does (write_change ids.id.0 ids.chapid.0 authenticator own user.now old.now new.now filler.now (length reply.old)) (refusal_in result) (sent_octets result) (renewal_in result) reply.old reply.new }
 {
     let exchange = Exchange::new(authenticator, own, user)?;
-    let old_hash = mschap::password_hash(old)?;
-    let hash = mschap::password_hash(new)?;
+    // before the hashes, so that a refusal takes no work
+    if 256 < old.len() {
+        return Err(Refusal::BadArgument);
+    }
+    if 256 < new.len() {
+        return Err(Refusal::BadArgument);
+    }
     if filler.len() != FILLER_OCTETS {
         return Err(Refusal::BadArgument);
     }
     if reply.len() < CHANGE_OCTETS {
         return Err(Refusal::NoRoom);
     }
+    let old_hash = mschap::password_hash(old)?;
+    let hash = mschap::password_hash(new)?;
     let block = password_block(old_hash, new, filler);
     let under = encrypted_hash(old_hash, hash);
     let response = exchange.nt_response(hash);

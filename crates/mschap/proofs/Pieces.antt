@@ -1,5 +1,5 @@
 -- Three pieces joined in a buffer, and what is made of them.
-use Prim.Native.Nat.{ℕ, ◌+◌, ◌-◌, ◌*◌, ◌/◌, ◌%◌, ◌≤◌, ◌<◌}
+use Prim.Native.Nat.{ℕ, min, ◌+◌, ◌-◌, ◌*◌, ◌/◌, ◌%◌, ◌≤◌, ◌<◌}
 use mathlib.Core.Path.{◌≡◌, refl, sym, ap, ◌∙◌}
 use mathlib.Core.List.{List, [], ◌++◌, append-nil}
 use native.Mathlib.Omega.{arith}
@@ -7,7 +7,7 @@ use lib.ListN.{length, get_or, take, drop, replicate, length-append, length-drop
 use lib.Seq.{take_at, length-take-le, get_or-take, get_or-drop, ext_get_or}
 use Rattle.octets.specs.Choice.{pick}
 use Rattle.octets.specs.Lists.{cells, sized, over, put}
-use Rattle.octets.proofs.Lists.{put_three, put_front, length_cells, get_or_cells, length_sized, get_or_sized, sized_take, get_or_zeros}
+use Rattle.octets.proofs.Lists.{put_three, put_front, length_cells, get_or_cells, length_sized, get_or_sized, sized_take, get_or_zeros, over_zeros}
 use Rattle.octets.proofs.Exits.{arms, below}
 use Rattle.octets.proofs.Scans.{get_or_past}
 use Rattle.digest.specs.Md4.{md4_of}
@@ -47,6 +47,28 @@ octet_is units k unit e h =
 pub octet_none : (units : List ℕ) (k : ℕ) → length units ≤ k / 2 → 0 ≡ unit_octet units k
 unfolding half_of
 octet_none units k h = sym (ap (λ (unit : ℕ). half_of unit k) (sym (get_or_past units (k / 2) h)) ∙ arms (λ (n : ℕ). n ≡ 0) _ refl refl)
+
+-- cells past the last that is not zero
+cells_zeros : (m n : ℕ) (f : ℕ → ℕ) → m ≤ n → ((k : ℕ) → m ≤ k → k < n → f k ≡ 0) → over (cells m f) (replicate n 0) ≡ cells n f
+cells_zeros m n f h z =
+    over_zeros n (cells m f) (omega (arith, length_cells m f))
+    ∙ ext_get_or 0 (sized n (cells m f)) (cells n f) (length_sized n (cells m f) ∙ sym (length_cells n f))
+    (λ i l.
+    let k : i < n = rw (length_sized n (cells m f)) at l in
+    get_or_sized n (cells m f) i k ∙ below i m (λ j. get_or_cells m f i j) (λ j. sym (get_or_past (cells m f) i (omega (arith, length_cells m f))) ∙ sym (z i j k)) ∙ sym (get_or_cells n f i k))
+
+-- the front of a buffer of zeros, filled with as many octets as the units have
+pub units_octets : (units front : List ℕ) (n m : ℕ) → n ≡ min (length units) 256 → front ≡ cells m (unit_octet units) → m ≡ 2 * n → front ++ drop (2 * n) (replicate 512 0) ≡ cells 512 (unit_octet units)
+units_octets units front n m e f g = rw (f, ← g) (filled ∙ zeros)
+  where
+    filled : cells m (unit_octet units) ++ drop m (replicate 512 0) ≡ over (cells m (unit_octet units)) (replicate 512 0)
+    filled = rw (length_cells m (unit_octet units)) refl
+
+    zeros : over (cells m (unit_octet units)) (replicate 512 0) ≡ cells 512 (unit_octet units)
+    zeros =
+        below 256 (length units)
+        (λ h. cells_zeros m 512 (unit_octet units) (omega arith) (λ i l k. absurd (omega arith)))
+        (λ h. cells_zeros m 512 (unit_octet units) (omega arith) (λ i l k. sym (octet_none units i (omega arith))))
 
 pub take_cells : (m n : ℕ) (f : ℕ → ℕ) → m ≤ n → take m (cells n f) ≡ cells m f
 take_cells m n f h =

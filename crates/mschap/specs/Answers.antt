@@ -1,4 +1,5 @@
--- 01, "What a call answers" and "Sizes": 23 for a name, a user or a password of more than 256, with zeros beside it; else 0.
+-- 01, "What a call answers" and "Sizes": 23 for a name, a user or a password of more than 256; else 0. Beside a 23 these have zeros, and the
+-- code hands out nothing.
 use Rattle.std.specs.Prelude.{ℕ, List, Result, ltb, length, replicate}
 use Rattle.octets.specs.Choice.{pick}
 use Rattle.answer.specs.declared.Refusal.{Refusal}

@@ -74,11 +74,22 @@ fn unit_octet(units: &[u16], k: usize) -> u8
     units[k / 2].to_le_bytes()[k % 2]
 }
 
-// The octets of the first 256 units, and zeros after them.
+fn put_units(dst: &mut [u8], units: &[u16])
+    ensures { dst.new ≡ cells (length dst.old) (unit_octet units.now) }
+{
+    for (k, x) in dst.iter_mut().enumerate() {
+        *x = unit_octet(units, k);
+    }
+}
+
+// The octets of the first 256 units, and zeros after them. A short password takes no work for the zeros.
 pub fn unit_octets(units: &[u16]) -> [u8; 512]
     ensures { result ≡ cells 512 (unit_octet units.now) }
 {
-    std::array::from_fn(|k| unit_octet(units, k))
+    let mut out = [0u8; 512];
+    let n = units.len().min(256);
+    put_units(&mut out[..2 * n], units);
+    out
 }
 
 #[tactic(auto, using(crate::proofs::Pieces::password_is))]

@@ -5,7 +5,7 @@ use mathlib.Core.List.{List, [], ◌∷◌}
 use mathlib.Core.Bool.{Bool, true, false, cond}
 use native.Mathlib.Omega.{arith}
 use lib.ListN.{length, take, drop, length-drop, drop_of_length-le}
-use lib.Seq.{take_all}
+use lib.Seq.{take_all, length-take-le}
 use lib.Dec.{eqb, ltb}
 use borrow.Author.Rules.{rules}
 use borrow.Author.Tests.{ltb-true, ltb-false}
@@ -77,5 +77,10 @@ module _ (x : ℕ) (s : List ℕ) where
     pub nowhere_after : [] ≡ after x s
     unfolding after
     nowhere_after = let h : length s ≤ upto x s + 1 = omega (arith, nowhere_upto) in sym (drop_of_length-le s h)
+
+-- what stands behind a field and the octet that ends it
+pub behind : (x : ℕ) (s field : List ℕ) → field ≡ before x s → drop (length field + 1) s ≡ after x s
+unfolding before after
+behind x s field e = let h : length field ≡ upto x s = rw e (length-take-le (upto x s) s (upto_most x s)) in rw h refl
 
 pub ruleset places = (rules, place_inside, place_before, place_after, nowhere_before, nowhere_after)

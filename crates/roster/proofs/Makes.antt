@@ -21,6 +21,7 @@ use Rattle.roster.specs.Made.{lines_of, AfterLine, after_line, added_to, added_b
 use Rattle.roster.specs.declared.LineError.{LineError}
 use Rattle.roster.specs.declared.LineError.TheVariants.{Full}
 use Rattle.roster.specs.declared.Entry.{Entry}
+use Rattle.roster.specs.declared.BadLine.{BadLine}
 
 -- ---- buffers
 over_own : (n : ℕ) (d : List ℕ) → n ≤ length d → d ≡ over (take n d) d
@@ -61,13 +62,13 @@ module _ (d s : List ℕ) (n : ℕ) (h : n ≤ length d) where
   stays : (o : AfterLine) (r : Result (Unit {0}) LineError) → o ≡ after_line r (take n d) → Makes o r n d d
   stays o r e = makes_by _ _ _ n d d e (record { told = refl; count = sym (length-take-le n d h); written = over_own n d h })
 
-  pub take_wrong : (why : LineError) → Err why ≡ entry_of s → Makes (added_line (length d) (take n d) s) (Err why) n d d
+  pub take_wrong : (bad : BadLine) → Err bad ≡ entry_of s → Makes (added_line (length d) (take n d) s) (Err bad.why) n d d
   unfolding added_line added_by
-  take_wrong why e = stays _ _ (ap (λ (x : Result (Option Entry) LineError). added_by x (length d) (take n d) s) (sym e))
+  take_wrong bad e = stays _ _ (ap (λ (x : Result (Option Entry) BadLine). added_by x (length d) (take n d) s) (sym e))
 
   pub take_none : Ok None ≡ entry_of s → Makes (added_line (length d) (take n d) s) (Ok tt) n d d
   unfolding added_line added_by
-  take_none e = stays _ _ (ap (λ (x : Result (Option Entry) LineError). added_by x (length d) (take n d) s) (sym e))
+  take_none e = stays _ _ (ap (λ (x : Result (Option Entry) BadLine). added_by x (length d) (take n d) s) (sym e))
 
   module _ (e : Entry) (ee : Ok (Some e) ≡ entry_of s) (x l : List ℕ) (ex : x ≡ take e.namelen s) where
     in_record : record_for e.code e.hash x ≡ record_in e s
@@ -79,7 +80,7 @@ module _ (d s : List ℕ) (n : ℕ) (h : n ≤ length d) where
 
     chosen : added_line (length d) (take n d) s ≡ pick (eqb (length new) (length (take n d))) (after_line (Err Full) new) (after_line (Ok tt) new)
     unfolding added_line added_by new
-    chosen = ap (λ (y : Result (Option Entry) LineError). added_by y (length d) (take n d) s) (sym ee)
+    chosen = ap (λ (y : Result (Option Entry) BadLine). added_by y (length d) (take n d) s) (sym ee)
 
     module _ (r : Option ℕ) (a : AppendedAt d n (record_for e.code e.hash x) r l) where
       news : (next_or n r ≡ length new) × (l ≡ over new d)
@@ -124,7 +125,7 @@ added_least room t s = least (entry_of s)
     grows : (q : List ℕ) → length t ≤ length (added_to room t q)
     grows q = arms (λ (l : List ℕ). length t ≤ length l) _ (omega arith) (omega (arith, length-append t q))
 
-    least : (r : Result (Option Entry) LineError) → length t ≤ length (added_by r room t s).table
+    least : (r : Result (Option Entry) BadLine) → length t ≤ length (added_by r room t s).table
     least (Err why) = omega arith
     least (Ok None) = omega arith
     least (Ok (Some e)) = arms (λ (x : AfterLine). length t ≤ length x.table) _ (grows (record_in e s)) (grows (record_in e s))

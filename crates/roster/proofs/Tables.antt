@@ -19,12 +19,13 @@ use Rattle.accounts.proofs.Appending.{record_formed}
 use Rattle.password.specs.Hashed.{hashed_of}
 use Rattle.password.specs.declared.PasswordError.{PasswordError}
 use Rattle.password.proofs.Hashes.{length_hashed}
-use Rattle.roster.specs.Lines.{upto, has, hash_mark, before, after, trimmed, word_hash, hex_secret, spelt, secret_of, code_after, entry, entry_by, entry_with, some_entry, entry_of}
+use Rattle.roster.specs.Lines.{upto, has, hash_mark, before, after, trimmed, word_hash, hex_secret, spelt, secret_of, code_after, bad, entry, entry_by, entry_with, some_entry, entry_of}
 use Rattle.roster.specs.Made.{lines_of, added_to, added_by, record_in, AfterLine, added_line, All, made_from, made_of}
 use Rattle.roster.specs.Promises.{MadeFormed}
 use Rattle.roster.specs.declared.LineError.{LineError}
 use Rattle.roster.specs.declared.LineError.TheVariants as error
 use Rattle.roster.specs.declared.Entry.{Entry}
+use Rattle.roster.specs.declared.BadLine.{BadLine}
 
 -- ---- all lines
 added_formed : (room : ℕ) (t q : List ℕ) → room ≤ 65536 → well_formed t ≡ true → well_formed q ≡ true → well_formed (added_to room t q) ≡ true
@@ -63,12 +64,12 @@ length_entry : (s : List ℕ) (x : Entry) → entry_of s ≡ Ok (Some x) → len
 unfolding entry_of pick
 length_entry s x e = by (eqb (length s) 0) (octet_is s 0 hash_mark) (not (has 9 s)) (eqb (upto 9 s) 0) (ltb 256 (upto 9 s)) e
   where
-    some : (r : Result Entry LineError) → entry_with s (upto 9 s) ≡ r → some_entry r ≡ Ok (Some x) → length x.hash ≡ 16
+    some : (r : Result Entry BadLine) → entry_with s (upto 9 s) ≡ r → some_entry r ≡ Ok (Some x) → length x.hash ≡ 16
     some (Ok y) f e = let q : y ≡ x = cc in length_with s (upto 9 s) x (f ∙ ap Ok q)
     some (Err why) f e = cc
 
     by : (a b c d f : Bool)
-        → pick a (Ok None) (pick b (Ok None) (pick c (Err error.NoPassword) (pick d (Err error.NoName) (pick f (Err error.LongName) (some_entry (entry_with s (upto 9 s))))))) ≡ Ok (Some x)
+        → pick a (Ok None) (pick b (Ok None) (pick c (Err (bad error.NoPassword 0 0)) (pick d (Err (bad error.NoName 0 0)) (pick f (Err (bad error.LongName 0 0)) (some_entry (entry_with s (upto 9 s))))))) ≡ Ok (Some x)
         → length x.hash ≡ 16
     by true b c d f e = cc
     by false true c d f e = cc
@@ -81,7 +82,7 @@ line_formed : (room : ℕ) (t s : List ℕ) → room ≤ 65536 → well_formed t
 unfolding added_line added_by record_in
 line_formed room t s h w = by (entry_of s) refl
   where
-    by : (r : Result (Option Entry) LineError) → entry_of s ≡ r → well_formed (added_by r room t s).table ≡ true
+    by : (r : Result (Option Entry) BadLine) → entry_of s ≡ r → well_formed (added_by r room t s).table ≡ true
     by (Err why) e = w
     by (Ok None) e = w
     by (Ok (Some x)) e =

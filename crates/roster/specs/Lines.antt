@@ -10,6 +10,7 @@ use Rattle.password.specs.declared.PasswordError.TheVariants as unspelt
 use Rattle.roster.specs.declared.LineError.{LineError}
 use Rattle.roster.specs.declared.LineError.TheVariants as error
 use Rattle.roster.specs.declared.Entry.{Entry}
+use Rattle.roster.specs.declared.BadLine.{BadLine}
 
 -- ---- fields
 -- the place of the first x, or the end
@@ -72,29 +73,33 @@ code_after rest = pick (not (has 9 rest)) (Some 0) (code_in (after 9 rest))
 abbrev pub entry : ℕ → List ℕ → ℕ → Entry
 entry code hash namelen = record { code = code; hash = hash; namelen = namelen }
 
+-- what is wrong with a line, beside the code and the name's length where its password alone will not do
+abbrev pub bad : LineError → ℕ → ℕ → BadLine
+bad why code namelen = record { why = why; code = code; namelen = namelen }
+
 -- `#`
 abbrev pub hash_mark : ℕ
 hash_mark = 35
 
 -- with a name of n octets
-abbrev pub entry_by : Option ℕ → Result (List ℕ) LineError → ℕ → Result Entry LineError
-entry_by None secret n = Err error.BadCode
-entry_by (Some code) (Err why) n = Err why
+abbrev pub entry_by : Option ℕ → Result (List ℕ) LineError → ℕ → Result Entry BadLine
+entry_by None secret n = Err (bad error.BadCode 0 0)
+entry_by (Some code) (Err why) n = Err (bad why code n)
 entry_by (Some code) (Ok hash) n = Ok (entry code hash n)
 
-unfoldable pub entry_with : List ℕ → ℕ → Result Entry LineError
+unfoldable pub entry_with : List ℕ → ℕ → Result Entry BadLine
 entry_with s n = entry_by (code_after (after 9 s)) (secret_of (before 9 (after 9 s))) n
 
-abbrev pub some_entry : Result Entry LineError → Result (Option Entry) LineError
+abbrev pub some_entry : Result Entry BadLine → Result (Option Entry) BadLine
 some_entry (Ok e) = Ok (Some e)
 some_entry (Err why) = Err why
 
 -- the account of a line, none, or what is wrong with it
-unfoldable pub entry_of : List ℕ → Result (Option Entry) LineError
+unfoldable pub entry_of : List ℕ → Result (Option Entry) BadLine
 entry_of s =
     pick (eqb (length s) 0) (Ok None)
     (pick (octet_is s 0 hash_mark) (Ok None)
-    (pick (not (has 9 s)) (Err error.NoPassword)
-    (pick (eqb (upto 9 s) 0) (Err error.NoName)
-    (pick (ltb 256 (upto 9 s)) (Err error.LongName)
+    (pick (not (has 9 s)) (Err (bad error.NoPassword 0 0))
+    (pick (eqb (upto 9 s) 0) (Err (bad error.NoName 0 0))
+    (pick (ltb 256 (upto 9 s)) (Err (bad error.LongName 0 0))
     (some_entry (entry_with s (upto 9 s)))))))

@@ -5,6 +5,7 @@ use Rattle.octets.specs.Lists.{over}
 use Rattle.accounts.specs.Account.{record_for}
 use Rattle.roster.specs.Lines.{trimmed, entry_of}
 use Rattle.roster.specs.declared.Entry.{Entry}
+use Rattle.roster.specs.declared.BadLine.{BadLine}
 use Rattle.roster.specs.declared.LineError.{LineError}
 use Rattle.roster.specs.declared.LineError.TheVariants.{Full}
 
@@ -35,8 +36,8 @@ unfoldable pub record_in : Entry → List ℕ → List ℕ
 record_in e s = record_for e.code e.hash (take e.namelen s)
 
 -- a record that adds nothing did not fit
-unfoldable pub added_by : Result (Option Entry) LineError → ℕ → List ℕ → List ℕ → AfterLine
-added_by (Err why) room t s = after_line (Err why) t
+unfoldable pub added_by : Result (Option Entry) BadLine → ℕ → List ℕ → List ℕ → AfterLine
+added_by (Err bad) room t s = after_line (Err bad.why) t
 added_by (Ok None) room t s = after_line (Ok tt) t
 added_by (Ok (Some e)) room t s =
     pick (eqb (length (added_to room t (record_in e s))) (length t)) (after_line (Err Full) (added_to room t (record_in e s)))

@@ -4,7 +4,7 @@
 ghost use Rattle.std.specs.Prelude.{◌≡◌, ◌==◌, ◌≤◌, length, take, drop, position};
 ghost use Rattle.octets.specs.Lists.{cells};
 ghost use Rattle.octets.specs.Octets.{unhex_at};
-ghost use Rattle.roster.specs.Lines.{before, after, trimmed, error_of, hex_secret, secret_of, code_in, code_after, entry_with, entry_of};
+ghost use Rattle.roster.specs.Lines.{before, after, trimmed, error_of, hex_secret, secret_of, code_in, code_after, bad, entry_with, entry_of};
 ghost use Rattle.roster.specs.Made.{added_line, Takes, MadeBy};
 
 use password::PasswordError;
@@ -38,6 +38,15 @@ impl From<PasswordError> for LineError {
 pub struct Entry {
     pub code: u16,
     pub hash: [u8; 16],
+    pub namelen: usize,
+}
+
+// What is wrong with a line, and what it says all the same: the code and the name's length where its password alone will not do, and
+// else zeros.
+#[derive(Clone, Copy, PartialEq, Eq)]
+pub struct BadLine {
+    pub why: LineError,
+    pub code: u16,
     pub namelen: usize,
 }
 
@@ -153,24 +162,34 @@ fn code_after(rest: &[u8]) -> Option<u16>
 
 // ---- a line
 
+fn bad(why: LineError, code: u16, namelen: usize) -> BadLine
+    ensures { result ≡ bad why code namelen }
+{
+    BadLine { why, code, namelen }
+}
+
 // A line with a name of n octets.
 #[tactic(auto, unfolding(crate::specs::Lines::entry_with))]
-fn entry_with(s: &[u8], n: usize) -> Result<Entry, LineError>
+fn entry_with(s: &[u8], n: usize) -> Result<Entry, BadLine>
     ensures { result ≡ entry_with s.now n }
 {
     let rest = field_after(s, 9);
-    let code = code_after(rest).ok_or(LineError::BadCode)?;
-    let hash = secret_of(field_before(rest, 9))?;
-    Ok(Entry {
-        code,
-        hash,
-        namelen: n,
-    })
+    let Some(code) = code_after(rest) else {
+        return Err(bad(LineError::BadCode, 0, 0));
+    };
+    match secret_of(field_before(rest, 9)) {
+        Ok(hash) => Ok(Entry {
+            code,
+            hash,
+            namelen: n,
+        }),
+        Err(why) => Err(bad(why, code, n)),
+    }
 }
 
 // The account of a line, or none where it is passed over.
 #[tactic(auto, using(crate::proofs::Fields::entries))]
-pub fn entry_of(s: &[u8]) -> Result<Option<Entry>, LineError>
+pub fn entry_of(s: &[u8]) -> Result<Option<Entry>, BadLine>
     ensures { result ≡ entry_of s.now }
 {
     if s.len() == 0 {
@@ -180,13 +199,13 @@ pub fn entry_of(s: &[u8]) -> Result<Option<Entry>, LineError>
         return Ok(None);
     }
     let Some(n) = place(s, 9) else {
-        return Err(LineError::NoPassword);
+        return Err(bad(LineError::NoPassword, 0, 0));
     };
     if n == 0 {
-        return Err(LineError::NoName);
+        return Err(bad(LineError::NoName, 0, 0));
     }
     if 256 < n {
-        return Err(LineError::LongName);
+        return Err(bad(LineError::LongName, 0, 0));
     }
     let entry = entry_with(s, n)?;
     Ok(Some(entry))
@@ -200,8 +219,10 @@ fn take_line(table: &mut [u8], n: usize, s: &[u8]) -> Result<usize, LineError>
     requires { n ≤ length table.old }
     ensures { Takes (added_line (length table.old) (take n table.old) s.now) result n table.old table.new }
 {
-    let Some(entry) = entry_of(s)? else {
-        return Ok(n);
+    let entry = match entry_of(s) {
+        Ok(Some(entry)) => entry,
+        Ok(None) => return Ok(n),
+        Err(bad) => return Err(bad.why),
     };
     let name = octets::part(s, 0, entry.namelen);
     accounts::append_account(table, n, entry.code as u64, entry.hash, name).ok_or(LineError::Full)
@@ -226,7 +247,8 @@ pub fn make(table: &mut [u8], text: &[u8]) -> Made
     // the newline in each piece, which would be cut off again
     while 0 < left.len() {
         lines += 1;
-        match take_line(table, len, trim(field_before(left, 10))) {
+        let line = field_before(left, 10);
+        match take_line(table, len, trim(line)) {
             Ok(next) => len = next,
             Err(why) => {
                 return Made {
@@ -236,7 +258,7 @@ pub fn make(table: &mut [u8], text: &[u8]) -> Made
                 };
             }
         }
-        left = field_after(left, 10);
+        left = octets::rest(left, line.len() + 1);
     }
     Made {
         ended: Ok(()),

@@ -139,11 +139,14 @@ fn make(
     table: &[u8],
     old: Option<&Metadata>,
 ) -> Result<(), SaveError> {
-    let mut file = create_temp(rt, name).map_err(|cause| nothing(
-        b"table: TABLE cannot be written",
-        cause,
-    ))?;
-    let filled = fill(&mut file, table, old);
+    // the file is closed before its name is taken away
+    let filled = {
+        let mut file = create_temp(rt, name).map_err(|cause| nothing(
+            b"table: TABLE cannot be written",
+            cause,
+        ))?;
+        fill(&mut file, table, old)
+    };
     if filled.is_err() {
         unlink(rt, name);
     }

@@ -35,7 +35,7 @@ fn account(table: &[u8], place: usize, number: usize, name: &[u8], hash: [u8; 16
             b"the name has a backslash: a Response with this name is one of the user after the backslash, and does not find this account",
         );
     }
-    if hash == EMPTY {
+    if octets::equal(&hash, &EMPTY) {
         warn(number, b"the password is empty");
     }
 }

@@ -108,6 +108,7 @@ pub fn write_challenge(
     calls::word_written(writers::write_challenge(ids_of(identifier, chapid), challenge, name, out))
 }
 
+// The arrays are lent up to the writer: made here by value each stands on the stack once more.
 pub fn write_response(
     identifier: u8,
     chapid: u8,
@@ -118,16 +119,16 @@ pub fn write_response(
 ) -> u64
     ensures { made result out.new ≡ response_at identifier chapid peer.now ntresponse.now name.now out.old }
 {
-    let Ok(peer) = <[u8; 16]>::try_from(peer) else {
+    let Ok(peer) = <&[u8; 16]>::try_from(peer) else {
         return 23;
     };
-    let Ok(response) = <[u8; 24]>::try_from(ntresponse) else {
+    let Ok(response) = <&[u8; 24]>::try_from(ntresponse) else {
         return 23;
     };
     calls::word_written(writers::write_response(
         ids_of(identifier, chapid),
-        peer,
-        response,
+        *peer,
+        *response,
         name,
         out,
     ))

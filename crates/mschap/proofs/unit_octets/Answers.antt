@@ -1,7 +1,7 @@
-use Rattle.std.proofs.Common.{rules}
-use Rattle.octets.proofs.Scans.{cells_from_fn}
-use Rattle.mschap.specs.Responses.{unit_octet}
+use Rattle.std.proofs.Common.{arith}
+use lib.Seq.{length-take-le}
+use Rattle.mschap.proofs.Pieces.{units_octets}
 use Rattle.mschap.proofs.unit_octets.Goals as goal
 
 pub returns : goal.returns
-returns c = cells_from_fn _ (unit_octet c.args.units.now) _ (λ i r q k. search rules) _ 512 c.from_fn.ensures.items
+returns c = units_octets _ _ c.min-n.result _ c.min-n.ensures c.put_units.ensures (length-take-le _ _ (omega (arith, c.min-n.ensures)))

@@ -3,7 +3,8 @@ use Rattle.roster.proofs.Fields.{line_long, line_fault}
 use Rattle.roster.proofs.entry_of.Goals as goal
 
 pub returns-then-n-gt256 : goal.returns-then-n-gt256
-returns-then-n-gt256 c = line_long _ _ c.if-s-eq0.false c.octet_is.ensures c.if-octet_is.false _ c.in-Some.ensures c.if-n-eq0.false c.if-n-gt256.true
+returns-then-n-gt256 c =
+    rw c.bad-then-n-gt256.ensures (line_long _ _ c.if-s-eq0.false c.octet_is.ensures c.if-octet_is.false _ c.in-Some.ensures c.if-n-eq0.false c.if-n-gt256.true)
 
 pub returns-in_err-entry : goal.returns-in_err-entry
 returns-in_err-entry c =

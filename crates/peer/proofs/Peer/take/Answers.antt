@@ -1,3 +1,4 @@
+use Rattle.std.proofs.Common.{rules}
 use Rattle.peer.specs.State.{staged}
 use Rattle.peer.proofs.Moves.{taken_as, refuses_19, refuses_18, repeats_last, confirms_alone, fails, waits, succeeds, ends}
 use Rattle.peer.proofs.Replies.{quiet}
@@ -13,7 +14,7 @@ returns-in-WrongIdentifier c =
 
 pub returns-in-Again : goal.returns-in-Again
 returns-in-Again c =
-    rw (taken_as _ _ _ _ _ _ _ _ c.last_request.ensures c.turn_in.ensures c.in-Again.is, repeats_last _ _ _ _ _) c.repeat.ensures
+    rw (taken_as _ _ _ _ _ _ _ _ c.last_request.ensures c.turn_in.ensures c.in-Again.is, repeats_last _ _ _ _ _) (search rules)
 
 pub returns-in-Respond : goal.returns-in-Respond
 returns-in-Respond c = rw (taken_as _ _ _ _ _ _ _ _ c.last_request.ensures c.turn_in.ensures c.in-Respond.is) c.respond.ensures
