@@ -60,9 +60,9 @@ server_start_at state identifier challenge name retries reply =
     (unsized state reply)
 
 unfoldable pub server_packet_at : List ℕ → List ℕ → List ℕ → List ℕ → List ℕ → Done
-server_packet_at state packet table challenge reply =
-    pick (is_server state && is_sixteen challenge)
-    (ended octets_of_server (packet_of (server_of state) packet table challenge (length reply)) state reply)
+server_packet_at state packet table fresh reply =
+    pick (is_server state && is_sixteen fresh)
+    (ended octets_of_server (packet_of (server_of state) packet table fresh (length reply)) state reply)
     (unsized state reply)
 
 -- "state unchanged": its octets stay, whatever they are

@@ -17,6 +17,7 @@ use Rattle.octets.proofs.Exits.{pick_true, pick_false, below, tested, arms}
 use Rattle.octets.proofs.Lists.{put_fits}
 use Rattle.accounts.specs.Account.{record_for, next_or, AppendedAt}
 use Rattle.roster.specs.Lines.{upto, before, after, trimmed, entry_of}
+use Rattle.roster.proofs.Fields.{line_empty}
 use Rattle.roster.specs.Made.{lines_of, AfterLine, after_line, added_to, added_by, record_in, added_line, All, all, made_from, made_of, Makes, Takes, MadeBy}
 use Rattle.roster.specs.declared.LineError.{LineError}
 use Rattle.roster.specs.declared.LineError.TheVariants.{Full}
@@ -70,6 +71,9 @@ module _ (d s : List ℕ) (n : ℕ) (h : n ≤ length d) where
   unfolding added_line added_by
   take_none e = stays _ _ (ap (λ (x : Result (Option Entry) BadLine). added_by x (length d) (take n d) s) (sym e))
 
+  pub take_blank : length s ≡ 0 → Makes (added_line (length d) (take n d) s) (Ok tt) n d d
+  take_blank e = take_none (line_empty s e)
+
   module _ (e : Entry) (ee : Ok (Some e) ≡ entry_of s) (x l : List ℕ) (ex : x ≡ take e.namelen s) where
     in_record : record_for e.code e.hash x ≡ record_in e s
     unfolding record_in
@@ -103,7 +107,7 @@ module _ (d s : List ℕ) (n : ℕ) (h : n ≤ length d) where
     take_account None y a f = rw f (take_full a)
     take_account (Some next) y a f = rw f (take_more next a)
 
-pub ruleset takes = (rules, take_wrong, take_none, take_account)
+pub ruleset takes = (rules, take_wrong, take_none, take_blank, take_account)
 
 -- ---- lines
 lines_next : (s : List ℕ) → 0 < length s → lines_of s ≡ before 10 s ∷ lines_of (after 10 s)
