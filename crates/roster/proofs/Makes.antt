@@ -2,7 +2,7 @@
 use Prim.Native.Nat.{ℕ, suc, ◌+◌, ◌-◌, ◌≤◌, ◌<◌}
 use mathlib.Core.Path.{◌≡◌, refl, sym, ap, ◌∙◌}
 use mathlib.Core.List.{List, [], ◌∷◌, ◌++◌}
-use mathlib.Core.Bool.{true, false}
+use mathlib.Core.Bool.{Bool, true, false}
 use native.Mathlib.Numerals.{add-one}
 use native.Mathlib.Omega.{arith}
 use lib.ListN.{length, take, drop, length-append, length-drop, take-append-drop}
@@ -13,11 +13,12 @@ use borrow.Author.Tests.{eq-eqb, ne_eqb, lt-ltb, le-ltb, le-leb, lt-leb}
 use Rattle.std.specs.Prelude.{Option, Some, None, Result, Ok, Err, is_err, ok_or}
 use Rattle.octets.specs.Choice.{pick}
 use Rattle.octets.specs.Lists.{over, put, next_at, Appended}
+use Rattle.octets.specs.Octets.{octet_is}
 use Rattle.octets.proofs.Exits.{pick_true, pick_false, below, tested, arms}
 use Rattle.octets.proofs.Lists.{put_fits}
 use Rattle.accounts.specs.Account.{record_for, next_or, AppendedAt}
-use Rattle.roster.specs.Lines.{upto, before, after, trimmed, entry_of}
-use Rattle.roster.proofs.Fields.{line_empty}
+use Rattle.roster.specs.Lines.{upto, before, after, trimmed, hash_mark, entry_of}
+use Rattle.roster.proofs.Fields.{line_empty, line_comment}
 use Rattle.roster.specs.Made.{lines_of, AfterLine, after_line, added_to, added_by, record_in, added_line, All, all, made_from, made_of, Makes, Takes, MadeBy}
 use Rattle.roster.specs.declared.LineError.{LineError}
 use Rattle.roster.specs.declared.LineError.TheVariants.{Full}
@@ -74,6 +75,9 @@ module _ (d s : List ℕ) (n : ℕ) (h : n ≤ length d) where
   pub take_blank : length s ≡ 0 → Makes (added_line (length d) (take n d) s) (Ok tt) n d d
   take_blank e = take_none (line_empty s e)
 
+  pub take_comment : (a : Bool) → (length s ≡ 0 → ⊥) → a ≡ octet_is s 0 hash_mark → a ≡ true → Makes (added_line (length d) (take n d) s) (Ok tt) n d d
+  take_comment a h e t = take_none (line_comment s a h e t)
+
   module _ (e : Entry) (ee : Ok (Some e) ≡ entry_of s) (x l : List ℕ) (ex : x ≡ take e.namelen s) where
     in_record : record_for e.code e.hash x ≡ record_in e s
     unfolding record_in
@@ -107,7 +111,7 @@ module _ (d s : List ℕ) (n : ℕ) (h : n ≤ length d) where
     take_account None y a f = rw f (take_full a)
     take_account (Some next) y a f = rw f (take_more next a)
 
-pub ruleset takes = (rules, take_wrong, take_none, take_blank, take_account)
+pub ruleset takes = (rules, take_wrong, take_none, take_blank, take_comment, take_account)
 
 -- ---- lines
 lines_next : (s : List ℕ) → 0 < length s → lines_of s ≡ before 10 s ∷ lines_of (after 10 s)

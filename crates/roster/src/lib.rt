@@ -219,8 +219,11 @@ fn take_line(table: &mut [u8], n: usize, s: &[u8]) -> Result<usize, LineError>
     requires { n ≤ length table.old }
     ensures { Takes (added_line (length table.old) (take n table.old) s.now) result n table.old table.new }
 {
-    // before the call, whose entry would be most of a blank line's work
+    // before the call, whose entry would be most of the work of a line that is passed over
     if s.is_empty() {
+        return Ok(n);
+    }
+    if octets::octet_is(s, 0, b'#') {
         return Ok(n);
     }
     let entry = match entry_of(s) {

@@ -42,8 +42,8 @@ fn account(table: &[u8], place: usize, number: usize, name: &[u8], hash: [u8; 16
 
 // A line whose record, if it is an account, begins at `at` in the table; the place after that.
 fn line(table: &[u8], at: usize, number: usize, s: &[u8]) -> usize {
-    // before the call, whose entry would be most of a blank line's work
-    if s.is_empty() {
+    // before the call, whose entry would be most of the work of a line that is passed over
+    if s.is_empty() || octets::octet_is(s, 0, b'#') {
         return at;
     }
     let Ok(Some(entry)) = roster::entry_of(s) else {
